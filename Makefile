@@ -96,6 +96,7 @@ compare:
 	tests/check $(CHECK_PROGRAM) installed
 	tests/mutations $(CHECK_PROGRAM) $(PROGRAM)
 	tests/mutations $(CHECK_PROGRAM) $(PROGRAM) --installed --bibtex
+	tests/effects $(LSP_PROGRAM)
 
 try-latex:
 	tests/latex

@@ -37,7 +37,7 @@ fn refuse(rt: &(impl Print + Eprint), fault: OptionsFault) -> Result<ExitCode> {
     }
 }
 
-/// Answers the commands of a source on a sink. A fault of either, or an input that is cut short, is reported.
+/// Runs the command loop over a source and a sink, and reports its fault, if it ends with one.
 fn answer<S: Source, K: Sink>(
     rt: &HostRuntime,
     source: &mut S,

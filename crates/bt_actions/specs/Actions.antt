@@ -1,4 +1,4 @@
--- What each built-in function does that runs no other.
+-- What the built-in functions do that run no other function.
 use Rattle.std.specs.Prelude.{Option, Some, None, ℤ, pos, ◌++◌, length, int_lt, ◌+ℤ◌, ◌-ℤ◌}
 use Rattle.std.specs.Option.{is_none}
 use Rattle.bt_style.specs.declared.builtin.Builtin.{Builtin as Primitive}
@@ -26,17 +26,18 @@ use Rattle.bt_actions.specs.Assignment.{assigned}
 use Rattle.bt_actions.specs.LogLines.{shown_value, log_stack}
 use Rattle.bt_actions.specs.Stack.{duplicated, swapped}
 
--- an action on an argument, or nothing without one
+-- an action on an argument; without an argument, nothing is done
 abbrev pub act_with : {A : Type 0} → (A → World → Act) → Option A × World → Act
 act_with f (None, w) = Goes w
 act_with f (Some a, w) = f a w
 
--- the same, where the run goes on
+-- the same for a change, after which the run always goes on
 abbrev pub change_with : {A : Type 0} → (A → World → World) → Option A × World → Act
 change_with f (None, w) = Goes w
 change_with f (Some a, w) = Goes (f a w)
 
--- The table of the built-in functions. Those that run others are not in it: for them nothing is done.
+-- The table of the built-in functions. It does nothing for `call.type$`, `if$` and `while$`, which run other functions:
+-- `built_in` of bt_machine defines these.
 abbrev pub basic : Program → Primitive → World → Act
 basic p builtin.Greater w =
     valued (λ (n, m). Gives (truth (int_lt m n))) zero_item (taken_two builtin.Greater as_number as_number w)

@@ -1,4 +1,4 @@
--- What the functions give that look at values of several kinds.
+-- The results of functions that take values of several kinds: `=` and `empty$`.
 use Rattle.std.specs.Prelude.{ℕ, Bool, true, bytes_eq, List, Option, Some, None}
 use Rattle.std.specs.List.{list_all}
 use Rattle.std.specs.Ordering.{int_eq}
@@ -8,13 +8,13 @@ use Rattle.bt_actions.specs.declared.complaint.Complaint.TheVariants.{WrongKind}
 use Rattle.bt_actions.specs.Item.{Item, Num, Txt}
 use Rattle.bt_actions.specs.Given.{Given, Gives, Errs, truth, zero_item}
 
--- two numbers or two texts; any others are of the wrong kind
+-- whether two numbers or two texts are equal; any other two values are of the wrong kind
 abbrev pub equality_of : Item × Item → Given
 equality_of (Num n, Num m) = Gives (truth (int_eq n m))
 equality_of (Txt t, Txt u) = Gives (truth (bytes_eq t u))
 equality_of (v, u) = Errs (WrongKind Equals) zero_item
 
--- a field that is missing, or a text of white space alone
+-- whether it is a missing field, or a text with nothing but white space
 abbrev pub is_blank : Option (List ℕ) → Bool
 is_blank None = true
 is_blank (Some t) = list_all is_white t

@@ -1,4 +1,4 @@
--- What a function of its arguments gives.
+-- The result of a built-in function that depends only on its arguments.
 use Rattle.std.specs.Prelude.{ℤ, pos, negsuc, Bool, true, false, ◌^◌, [], Option, Some, None, nat_lt, if◌then◌else◌}
 use Rattle.bt_style.specs.declared.builtin.Builtin.{Builtin as Primitive}
 use Rattle.bt_actions.specs.declared.complaint.Complaint.{Complaint}
@@ -12,17 +12,17 @@ pub data Given : Type 0 where
   Gives : (v : Item) → Given
   Errs : (m : Complaint) → (v : Item) → Given
 
--- It goes on the stack.
+-- pushes the value
 abbrev pub answered : Given → World → Act
 answered (Gives v) w = pushed v w
 answered (Errs m v) w = pushed_in_error m v w
 
--- a function of its arguments; without them the value in place of the right one goes on the stack
+-- applies a function to its arguments and pushes the result; without arguments, pushes the default
 abbrev pub valued : {A : Type 0} → (A → Given) → Item → Option A × World → Act
 valued f default (None, w) = pushed default w
 valued f default (Some a, w) = answered (f a) w
 
--- what stands in place of a number and of a text
+-- the defaults for a number and for a text
 abbrev pub zero_item : Item
 zero_item = Num (pos 0)
 
@@ -34,11 +34,11 @@ abbrev pub fits_number : ℤ → Bool
 fits_number (pos n) = nat_lt n (2 ^ 31)
 fits_number (negsuc n) = nat_lt n (2 ^ 31)
 
--- a function's number, which must fit
+-- a number as a result; if it doesn't fit, an error
 abbrev pub number_given : Primitive → ℤ → Given
 number_given b n = if fits_number n then Gives (Num n) else Errs (OutOfRange b) zero_item
 
--- 1 for what holds, else 0
+-- 1 if it is true, else 0
 abbrev pub truth : Bool → Item
 truth true = Num (pos 1)
 truth false = Num (pos 0)

@@ -1,14 +1,14 @@
--- What can be run, and what can stand on the stack.
+-- What can be run, and what can be on the literal stack.
 use Rattle.std.specs.Prelude.{ℕ, ℤ, List}
 use Rattle.bt_style.specs.declared.style.Target.{Target}
 use Rattle.bt_style.specs.Tree.{Body}
 
--- a name, which is called, or a body
+-- what can be run: a name, which is called, or a body
 pub data Code : Type 0 where
   Name : (name : Target) → Code
   Block : (inner : Body) → Code
 
--- a number, a text, a quoted name or a braced function, or the number of a field that is missing
+-- a value: a number, a text, a function (a quoted name or one in braces), or a missing field, by its number
 pub data Item : Type 0 where
   Num : (n : ℤ) → Item
   Txt : (t : List ℕ) → Item

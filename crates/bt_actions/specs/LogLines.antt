@@ -9,7 +9,7 @@ use Rattle.bt_actions.specs.declared.complaint.Complaint.TheVariants.{Shown}
 use Rattle.bt_actions.specs.Item.{Code, Name, Block, Item, Num, Txt, Fun, Missing}
 use Rattle.bt_actions.specs.World.{World, told_message}
 
--- the name of a number, or nothing where there is none
+-- the name of this number, or nothing if there is none
 abbrev pub name_or_empty : List (List ℕ) → ℕ → List ℕ
 name_or_empty names n = slice_index_or names n []
 
@@ -35,7 +35,7 @@ shown_value p (Txt t) = t
 shown_value p (Fun c) = shown_code p c
 shown_value p (Missing n) = codes "missing " ++ name_or_empty p.fields n
 
--- all values are logged, from the top, and the stack is left empty
+-- logs all values, the top first, and leaves the stack empty
 abbrev pub log_stack : Program → World → World
 log_stack p w =
     record w { messages = w.messages ++ map (λ v. told_message w (Shown (shown_value p v))) w.stack; stack = [] }

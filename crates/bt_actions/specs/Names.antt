@@ -1,4 +1,4 @@
--- What the functions on lists of names give.
+-- The result of `format.name$`.
 use Rattle.std.specs.Prelude.{ℕ, ℤ, List, Result, Ok, Err}
 use Rattle.bt_names.specs.declared.faults.FormatFault.{FormatFault}
 use Rattle.bt_names.specs.declared.faults.FormatFault.TheVariants as fault
@@ -7,8 +7,7 @@ use Rattle.bt_actions.specs.declared.complaint.Complaint.TheVariants.{NoSuchName
 use Rattle.bt_actions.specs.Item.{Txt}
 use Rattle.bt_actions.specs.Given.{Given, Gives, Errs, empty_item}
 
--- A formatted name, or what is wrong with the names or the pattern. Out of memory is no fault of theirs: no definition
--- gives it.
+-- The formatted name, or the error for what is wrong with the names or the pattern. No definition gives `OutOfMemory`.
 abbrev pub format_given : List ℕ → ℤ → List ℕ → Result (List ℕ) FormatFault → Given
 format_given names n pattern (Ok t) = Gives (Txt t)
 format_given names n pattern (Err fault.NoSuchName) = Errs (NoSuchName n names) empty_item
@@ -16,6 +15,6 @@ format_given names n pattern (Err fault.TooManyCommas) = Errs (TooManyCommas n n
 format_given names n pattern (Err (fault.PatternFault place)) = Errs (PatternFault pattern place) empty_item
 format_given names n pattern (Err fault.OutOfMemory) = Gives empty_item
 
--- a name in the form of a pattern
+-- the n-th of some names, formatted by a pattern
 abbrev pub name_formatted : List ℕ × ℤ × List ℕ → Given
 name_formatted (names, n, pattern) = format_given names n pattern (formatted_name names n pattern)

@@ -1,10 +1,10 @@
--- What the functions on numbers give.
+-- The results of `chr.to.int$` and `int.to.chr$`.
 use Rattle.std.specs.Prelude.{ℕ, ℤ, pos, negsuc, nat_lt, if◌then◌else◌, List, [], ◌∷◌}
 use Rattle.bt_actions.specs.declared.complaint.Complaint.TheVariants.{NotOneCharacter, NotAscii}
 use Rattle.bt_actions.specs.Item.{Num, Txt}
 use Rattle.bt_actions.specs.Given.{Given, Gives, Errs, zero_item, empty_item}
 
--- the number of the one byte of a text
+-- the number of a text's only byte
 abbrev pub byte_number : List ℕ → Given
 byte_number (b ∷ []) = Gives (Num (pos b))
 byte_number t = Errs (NotOneCharacter t) zero_item

@@ -6,12 +6,12 @@ use Rattle.bt_actions.specs.Item.{Item, Num, Txt, Missing}
 use Rattle.bt_actions.specs.World.{World, Act, entry_of}
 use Rattle.bt_actions.specs.State.{pushed, pushed_in_error}
 
--- what the current entry gives, or without one an error and a default
+-- pushes a value of an entry; without an entry, gives an error and pushes the default
 abbrev pub entry_or_error : (Entry → Item) → Item → Option Entry → World → Act
 entry_or_error value default None w = pushed_in_error NoEntry default w
 entry_or_error value default (Some e) w = pushed (value e) w
 
--- the same of the step's entry
+-- the same for the step's entry
 abbrev pub of_entry : (Entry → Item) → Item → World → Act
 of_entry value default w = entry_or_error value default (entry_of w) w
 
@@ -31,7 +31,7 @@ number_at n e = Num (slice_index_or e.variables.numbers n (pos 0))
 abbrev pub text_at : ℕ → Entry → Item
 text_at n e = Txt (slice_index_or e.variables.texts n [])
 
--- the text of a type that has a function; any other is empty
+-- the text of a type; empty if no function of the style has its name
 abbrev pub kind_shown : Option ℕ → List ℕ → List ℕ
 kind_shown None kind = []
 kind_shown (Some f) kind = kind
@@ -39,7 +39,7 @@ kind_shown (Some f) kind = kind
 abbrev pub kind_item : Entry → Item
 kind_item e = Txt (kind_shown e.function e.kind)
 
--- variables of the style
+-- pushes the value of a global variable
 abbrev pub global_number : ℕ → World → Act
 global_number n w = pushed (Num (slice_index_or w.globals.numbers n (pos 0))) w
 

@@ -1,4 +1,4 @@
--- What the functions on texts give.
+-- The results of `change.case$` and `quote$`.
 use Rattle.std.specs.Prelude.{ℕ, List, [], ◌∷◌, Option, Some, None, ◌||◌, ◌==◌, if◌then◌else◌}
 use Rattle.bt_text.specs.declared.modes.Mode.{Mode}
 use Rattle.bt_text.specs.declared.modes.Mode.TheVariants.{Title, Lower, Upper}
@@ -14,12 +14,12 @@ mode_of_byte b =
     (if b == 108 || b == 76 then Some Lower else
     (if b == 117 || b == 85 then Some Upper else None))
 
--- `t`, `l` or `u`, in either case
+-- the change of case that a text names: `t`, `l` or `u`, in either case
 abbrev pub mode_of : List ℕ → Option Mode
 mode_of (b ∷ []) = mode_of_byte b
 mode_of _ = None
 
--- Where the mode is none the text stays.
+-- the text in that case; if there is no such case, an error, and the text stays
 abbrev pub case_by : Option Mode → List ℕ → List ℕ → Given
 case_by None t name = Errs (BadCase name) (Txt t)
 case_by (Some mode) t name = Gives (Txt (changed_case mode t))

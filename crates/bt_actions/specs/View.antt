@@ -1,4 +1,4 @@
--- What the program's values are in the definitions.
+-- The code's values as definitions see them.
 use Rattle.std.specs.Prelude.{List, [], ◌∷◌, Option, Some, None}
 use Rattle.bt_style.specs.Tree.{ops_body}
 use Rattle.bt_actions.specs.declared.code.Code.{Code as HeldCode}
@@ -19,7 +19,7 @@ abbrev pub entries_in : Option Entry → List Entry
 entries_in None = []
 entries_in (Some e) = e ∷ []
 
--- how an action leaves the run
+-- what an action leaves: whether the run goes on, and its world
 abbrev pub act_of : Flow → World → Act
 act_of Go w = Goes w
 act_of Stop w = Stops w

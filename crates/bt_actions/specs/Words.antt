@@ -9,7 +9,7 @@ use Rattle.bt_log.specs.declared.message.Message.{Message}
 use Rattle.bt_actions.specs.declared.complaint.Complaint.{Complaint}
 use Rattle.bt_actions.specs.declared.complaint.Complaint.TheVariants.{EmptyStack, WrongKind, NoEntry, OutOfRange, BadCase, NotOneCharacter, NotAscii, NoSuchName, TooManyCommas, PatternFault, NotVariable, LeftOver, Warned, Shown, TicksPassed, StackPassed, TextPassed}
 
--- What a style logs is a note or a warning, and a passed limit stops the run; all else is an error.
+-- A style's warnings are warnings, the values that it logs are notes, passed limits are fatal, all else is an error.
 abbrev pub rank_of : Complaint → Rank
 rank_of (Warned t) = Warning
 rank_of (Shown t) = Note
@@ -39,6 +39,6 @@ complaint_words TicksPassed = codes "The limit of 1000000 ticks was passed"
 complaint_words StackPassed = codes "The limit of 1000 stack values was passed"
 complaint_words TextPassed = codes "The limit of 65536 bytes was passed"
 
--- a complaint in a step for the entry with this key, or for none; the run knows the place of the step
+-- the message for a complaint, with the key of the step's entry, if it has one; the run adds the step's place
 abbrev pub message_of : Option (List ℕ) → Complaint → Message
 message_of key m = record { rank = rank_of m; said = Words (complaint_words m); entry = key; place = None; second = None }

@@ -23,36 +23,36 @@ pub record World : Type 0 where
   -- its top first
   pub stack : List Item
 
--- what an action that runs no function leaves: the run goes on, or it stops
+-- what an action leaves that runs no function: a world in which the run goes on, or one in which it stops
 pub data Act : Type 0 where
   Goes : (w : World) → Act
   Stops : (w : World) → Act
 
--- variables and an entry with nothing in them, for a look-up out of range
+-- empty variables and an empty entry: what a look-up out of range gives
 abbrev pub no_variables : Variables
 no_variables = record { numbers = []; texts = [] }
 
 abbrev pub no_entry : Entry
 no_entry = record { key = []; kind = []; function = None; fields = []; variables = no_variables }
 
--- the entry that a step is for
+-- the entry at a place, if a place is given
 abbrev pub entry_in : List Entry → Option ℕ → Option Entry
 entry_in es None = None
 entry_in es (Some x) = Some (slice_index_or es x no_entry)
 
--- the entry of a world's step
+-- the entry that the step is for
 abbrev pub entry_of : World → Option Entry
 entry_of w = entry_in w.entries w.current
 
--- its key
+-- the key of the entry at a place
 abbrev pub key_in : List Entry → Option ℕ → Option (List ℕ)
 key_in es x = option_map (λ e. e.key) (entry_in es x)
 
--- a complaint's rank and words
+-- the message for a complaint
 abbrev pub told_message : World → Complaint → Message
 told_message w m = message_of (key_in w.entries w.current) m
 
--- a complaint is reported
+-- reports a complaint
 abbrev pub say : Complaint → World → World
 say m w = record w { messages = w.messages ++ told_message w m ∷ [] }
 
@@ -60,6 +60,6 @@ say m w = record w { messages = w.messages ++ told_message w m ∷ [] }
 abbrev pub with_stack : List Item → World → World
 with_stack s w = record w { stack = s }
 
--- a world in which lines were written
+-- a world after this output: its lines come after the others, and it leaves another output buffer
 abbrev pub with_output : Output → World → World
 with_output o w = record w { lines = w.lines ++ o.lines; held = o.held }

@@ -19,15 +19,15 @@ pub enum Complaint {
     EmptyStack,
     /// An argument of this function was of another kind than it takes.
     WrongKind(Builtin),
-    /// What belongs to an entry was asked for in a step without one.
+    /// A step without an entry asked for something that belongs to an entry.
     NoEntry,
-    /// This function's number doesn't fit 32 signed bits.
+    /// The result of this function doesn't fit into 32 bits with sign.
     OutOfRange(Builtin),
     /// This text names no change of case.
     BadCase(Bytes),
     /// This text isn't one byte.
     NotOneCharacter(Bytes),
-    /// This number isn't one from 0 to 127.
+    /// This number isn't between 0 and 127.
     NotAscii(i32),
     /// There is no name of this number in this list of names.
     NoSuchName(i32, Bytes),
@@ -35,7 +35,7 @@ pub enum Complaint {
     TooManyCommas(i32, Bytes),
     /// This pattern has a fault at this place.
     PatternFault(Bytes, usize),
-    /// What was to get a value isn't a variable.
+    /// `:=` was given a name that isn't a variable.
     NotVariable,
     /// The stack wasn't empty at the end.
     LeftOver,

@@ -12,7 +12,7 @@ pub struct Variables {
     pub texts: Values<Shared<Bytes>>,
 }
 
-/// The same texts for one more owner; none of them is copied.
+/// The same texts, shared, not copied.
 pub fn share_texts(
     alloc: Global,
     texts: &[Shared<Bytes>],
@@ -34,7 +34,7 @@ pub struct Entry {
     pub kind: Shared<Bytes>,
     /// The function of its type, if it has one.
     pub function: Option<usize>,
-    /// Its fields, each by its number, where one that is missing has no text.
+    /// Its fields, each by its number; a missing one has no text.
     pub fields: Shared<SparseTexts>,
     pub variables: Shared<Variables>,
 }
@@ -42,7 +42,7 @@ pub struct Entry {
 impl Entry {
     ghost use Rattle.std.specs.Prelude.{◌≡◌, IfOk};
 
-    /// The same entry for one more owner; no part of it is copied.
+    /// The same entry, shared, not copied.
     pub fn share(&self) -> Result<Entry, AllocError>
         ensures { IfOk result (λ entry. entry ≡ self.now) }
     {

@@ -32,7 +32,7 @@ impl Tally {
         }
     }
 
-    /// Takes a tick, and counts the call where the element calls a built-in function.
+    /// Takes a tick, and counts the call if the element calls a built-in function.
     pub fn take(&mut self, called: Option<Builtin>)
         requires { 0 < self.old.ticks }
         ensures ticks { self.new.ticks + 1 ≡ self.old.ticks }

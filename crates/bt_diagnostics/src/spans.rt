@@ -5,7 +5,7 @@ ghost use Rattle.bt_diagnostics.specs.Spans.{blank_len, begin_of, span_of};
 
 use bt_positions::{IndexedText, Lines, first_line};
 
-/// A part of a text, by the offsets of its begin and its end.
+/// A part of a text, by the offsets of its beginning and its end.
 #[derive(Clone, Copy, Debug, PartialEq, Eq)]
 pub struct Span {
     pub begin: usize,

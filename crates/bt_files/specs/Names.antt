@@ -15,7 +15,7 @@ is_stand_in name = starts_with eqb name (codes "+/")
 abbrev pub is_own_name : List ℕ → Bool
 is_own_name author = is_file_name author && not (is_stand_in author)
 
--- the ending of a name, if it tells what the file is for
+-- the ending of a name, if it shows what the file is for
 abbrev pub ending_of : List ℕ → List ℕ
 ending_of name =
     if ends_with eqb name (codes ".aux") then codes ".aux"

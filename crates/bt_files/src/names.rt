@@ -46,7 +46,7 @@ pub fn is_own_name(author: &[u8]) -> bool
     is_file_name(author) && !is_stand_in(author)
 }
 
-/// The ending of a name, if it tells what the file is for.
+/// The ending of a name, if it shows what the file is for.
 fn ending_of(name: &[u8]) -> &'static [u8]
     ensures { result.now ≡ ending_of name.now }
 {

@@ -1,4 +1,4 @@
--- What is read of a source: a header.
+-- What is read from a source: a header, and a whole frame.
 use Rattle.std.specs.Prelude.{◌≡◌, ◌<◌, ◌≤◌, ◌⊎◌, ℕ, List, [], ◌++◌, length, Option, Some, None}
 use Rattle.std.specs.Io.KnownBytes.{Consumes, IsAtEnd}
 use Rattle.bt_frames.specs.declared.framing.Header.{Header}
@@ -24,7 +24,7 @@ ReadsHeader old new (Length says) = (bytes : List ℕ) × IsHeader bytes says ×
 ReadsHeader old new End = Consumes old new [] × IsAtEnd new
 ReadsHeader old new Cut = (bytes : List ℕ) × IsCutHeader bytes × Consumes old new bytes × IsAtEnd new
 
--- A header and the body behind it, also if it is too large or there is no memory for it; a header that says no length;
+-- A header and the body after it, also if it is too large or there is no memory for it; a header that says no length;
 -- nothing at the end; or a part of these and the end.
 abbrev pub ReadsFrame : Option (List ℕ) → Option (List ℕ) → Frame → Type 0
 ReadsFrame old new (Body body) =

@@ -1,4 +1,4 @@
--- A job over an author's files: what they mean under names that a session admits, told under the author's names.
+-- A job over an author's files: what they mean under names that a session admits, reported under the author's names.
 use Rattle.std.specs.Prelude.{ℕ, Bool, eqb, List, [], ◌∷◌, ◌++◌, map, fold, flat_map, codes, unwrap_or, length, ◌==◌, if◌then◌else◌}
 use Rattle.std.specs.List.{ends_with}
 use Rattle.bt_bib.specs.AuxLine.{aux_lines}
@@ -36,7 +36,7 @@ table_of files root = fold with_author [] (names_of files root)
 abbrev pub renamed : List (List ℕ) → List ℕ → List ℕ
 renamed table author = unwrap_or (session_name table author) author
 
--- An .aux text is written anew only where a name of the job changes.
+-- An .aux text is written anew only if some name of the job changes.
 abbrev pub text_under : List (List ℕ) → List ℕ → List ℕ
 text_under table text =
     if length table == 0 then text
@@ -46,13 +46,13 @@ abbrev pub file_under : List (List ℕ) → File → File
 file_under table f =
     record { name = renamed table f.name; text = if is_aux f then text_under table f.text else f.text }
 
--- The root is the first name of a job, so it is number 1 where it needs another name.
+-- The root is the first name of a job, so it is number 1 if it needs another name.
 abbrev pub root_under : List ℕ → List ℕ
 root_under root = if is_own_name (root ++ codes ".aux") then root else codes "+/1"
 
 -- Meaning
 
--- a meaning under the session's names, told under the author's
+-- a meaning under the session's names, with the author's names put back
 abbrev pub told_under : List (List ℕ) → Meaning → Meaning
 told_under table m =
     let messages = map (put_back table) m.messages in
@@ -63,7 +63,7 @@ told_under table m =
       wanted = map (name_back table) m.wanted;
     }
 
--- what a session's files mean, where this table gave them their names
+-- what a session's files mean, if this table gave them their names
 abbrev pub meaning_under : List (List ℕ) → List File → List ℕ → ℕ → Meaning
 meaning_under table files root min = told_under table (meaning (map (file_under table) files) (root_under root) min)
 

@@ -1,5 +1,5 @@
-//! A job over an author's files, whose names may be any: it is run under names that a session admits, and told under the
-//! author's. The run has no limit on the size of a file or on their number; only edits of a session have.
+//! A job over an author's files, whose names may be any: it runs under names that a session admits, and is reported
+//! under the author's. The size and number of files have no limit here; only a session's edits limit them.
 #![tactic(auto)]
 
 mod job;

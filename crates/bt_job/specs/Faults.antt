@@ -1,4 +1,4 @@
--- What can be wrong with a line of an .aux file that counts, and what the log says about it.
+-- What can be wrong with an .aux line that matters, and what the log says about it.
 use Rattle.std.specs.Prelude.{ℕ, not, eqb, List, [], ◌∷◌, ◌++◌, codes, Option, Some, None, if◌then◌else◌}
 use Rattle.std.specs.List.{ends_with}
 use Rattle.std.specs.Option.{is_some}

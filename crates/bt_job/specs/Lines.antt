@@ -1,4 +1,4 @@
--- The lines of a job that count: those of its root file, with the lines of each file that one of them opens after it.
+-- The lines of a job that matter: those of its root file, each followed by the lines of the file that it opens.
 use Rattle.std.specs.Prelude.{ℕ, zero, suc, ◌+◌, Bool, true, false, List, [], ◌∷◌, ◌++◌, length, map, fold, filter, find, flat_map, codes, Option, Some, None, if◌then◌else◌}
 use Rattle.std.specs.Option.{option_or, option_map}
 use Rattle.bt_bib.specs.declared.aux_line.Command.{Command}
@@ -10,7 +10,7 @@ use Rattle.bt_job.specs.declared.files.File.{File}
 use Rattle.bt_job.specs.FileNames.{text_of, with_ending}
 use Rattle.bt_job.specs.Faults.{LineFault, SecondCommand, IllEnded, PartFault, key_fault, database_fault, style_fault, input_fault, right_parts, first_fault}
 
--- a line that counts, of a file that is `level` levels below the root
+-- a line that matters, of a file that is `level` levels below the root
 pub record JobLine : Type 0 where
   pub level : ℕ
   pub file : List ℕ

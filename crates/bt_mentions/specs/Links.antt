@@ -49,7 +49,7 @@ abbrev pub in_argument : LinkKind → ℕ → ℕ → Linking
 in_argument kind place byte =
     if byte == 125 then Outside else (if ends_name byte then Argument kind else File kind place)
 
--- behind a byte at a place of a text
+-- after a byte at a place of a text
 abbrev pub linking_after : List ℕ → ℕ → Linking → ℕ → Linking
 linking_after text place Outside byte = after_command None place byte
 linking_after text place (Command from) byte =

@@ -130,7 +130,7 @@ fn in_argument(kind: LinkKind, place: usize, byte: u8) -> Linking
     }
 }
 
-/// Where the next place is, behind a byte at a place of a text.
+/// Where the next place is, after a byte at a place of a text.
 fn linking_after(text: &[u8], place: usize, before: Linking, byte: u8) -> Linking
     requires { place + 1 < 2 ^ 64 }
     ensures { result ≡ linking_after text.now place before byte }

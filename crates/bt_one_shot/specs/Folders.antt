@@ -1,10 +1,10 @@
--- What is seen of a folder: what it holds, and what is read of it and written to it, where it shows that.
+-- What contracts see of a folder, as far as it shows that: what it holds, and what was read and written.
 use Rattle.std.specs.Prelude.{◌≡◌, ◌≤◌, ◌<◌, ◌+◌, ◌^◌, ℕ, Bool, true, false, List, [], ◌∷◌, ◌++◌, length, take, fold, Option, None, Some, if◌then◌else◌, bytes_eq}
 use Rattle.std.specs.Option.{option_map}
 use Rattle.bt_one_shot.specs.declared.folder.Found.{Found}
 use Rattle.bt_one_shot.specs.declared.folder.Found.TheVariants as found
 
--- the bytes of each name that a folder has a file of
+-- the bytes of the file with each name, if there is one
 abbrev pub Contents : Type 0
 Contents = List ℕ → Option (List ℕ)
 
@@ -13,20 +13,20 @@ pub record Written : Type 0 where
   pub name : List ℕ
   pub bytes : List ℕ
 
--- what is seen of a folder
+-- what contracts see of a folder
 pub record Seen : Type 0 where
-  -- what it holds, where it shows that
+  -- what it holds, if it shows that
   pub held : Option Contents
-  -- the names that were looked up, the first first, where it shows them
+  -- the names that were looked up, in order, if it shows them
   pub looked_up : Option (List (List ℕ))
-  -- the files that were written, the first first, where it shows them
+  -- the files that were written, in order, if it shows them
   pub written : Option (List Written)
   -- how many writes failed
   pub failures : ℕ
-  -- how often it was read, as long as that is below 2^64
+  -- how many reads were made, as long as that is below 2^64
   pub reads : ℕ
 
--- a list that is reported has these elements more
+-- a list, if it is shown, has these elements more
 abbrev pub Gains : {A : Type 0} → Option (List A) → Option (List A) → List A → Type 0
 Gains None new more = Unit {0}
 Gains (Some old) None more = ⊥
@@ -34,18 +34,18 @@ Gains (Some old) (Some new) more = new ≡ old ++ more
 
 -- Reading
 
--- how many bytes of a file are read at most: one more than a text may have
+-- at most how many bytes of a file are read: one more than a text may have
 abbrev pub most_read : ℕ
 most_read = 1048577
 
--- what is found under a name is the beginning of what is held there
+-- what is found under a name is the beginning of what the folder holds there
 abbrev pub Finds : Option Contents → List ℕ → Found → Type 0
 Finds None name found = Unit {0}
 Finds (Some held) name (found.Bytes bytes) = option_map (take most_read) (held name) ≡ Some bytes
 Finds (Some held) name found.Missing = held name ≡ None
 Finds (Some held) name found.NoRoom = Unit {0}
 
--- no more bytes are found than are read of a file
+-- at most as many bytes are found as are read of a file
 abbrev pub IsWithin : Found → Type 0
 IsWithin (found.Bytes bytes) = length bytes ≤ most_read
 IsWithin found.Missing = Unit {0}
@@ -67,17 +67,17 @@ pub record LooksUp (old new : Seen) (count : ℕ) (names : List (List ℕ)) : Ty
 
 -- Writing
 
--- what is held with a file in the place of that of its name, or beside the others
+-- what a folder holds after this file was written
 abbrev pub with_file : Contents → Written → Contents
 with_file held file = λ name. if bytes_eq file.name name then Some file.bytes else held name
 
--- the same is held but for these files, which were put in their places
+-- a folder holds the same, except for these files that were written
 abbrev pub Holds : Option Contents → Option Contents → List Written → Type 0
 Holds None new files = Unit {0}
 Holds (Some old) None files = ⊥
 Holds (Some old) (Some new) files = (name : List ℕ) → new name ≡ fold with_file old files name
 
--- the same, but that this one name may have been left with anything
+-- the same, except that anything may be left under this one name
 abbrev pub HoldsBut : List ℕ → Option Contents → Option Contents → List Written → Type 0
 HoldsBut spoiled None new files = Unit {0}
 HoldsBut spoiled (Some old) None files = ⊥

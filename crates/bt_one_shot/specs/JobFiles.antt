@@ -11,7 +11,7 @@ use Rattle.bt_one_shot.specs.declared.folder.Found.{Found}
 use Rattle.bt_one_shot.specs.declared.folder.Found.TheVariants as found
 use Rattle.bt_one_shot.specs.Folders.{Contents, Finds, looked_up}
 
--- a file that was looked up: its name, what was found, and whether there was no room to take that in
+-- a file that was looked up: its name, what was found, and whether there was no memory to take that in
 pub record LookedUp : Type 0 where
   pub name : List ℕ
   pub found : Found
@@ -24,13 +24,13 @@ name_of r = r.name
 abbrev pub next : State → List (List ℕ) → Option (List ℕ)
 next s met = find (λ name. not (list_any (bytes_eq name) met)) (shown s).wanted
 
--- what becomes of a state by what was found under a name: a text is written under it
+-- the state after what was found under a name was taken in (a text is written under the name), or why it was refused
 abbrev pub taken_found : State → List ℕ → Bool → Found → Result State Refusal
 taken_found s name ran_out (found.Bytes text) = unless_out_of_memory ran_out (applied (write name text) s)
 taken_found s name ran_out found.Missing = Ok s
 taken_found s name ran_out found.NoRoom = Err OutOfMemory
 
--- what becomes of a state by a file, or why that is refused
+-- the state after a file was taken in, or why it was refused
 abbrev pub taken : State → LookedUp → Result State Refusal
 taken s r = taken_found s r.name r.ran_out r.found
 

@@ -10,23 +10,23 @@ use Rattle.bt_one_shot.specs.JobFiles.{LookedUp, name_of, next, after_files, ref
 
 -- What is looked up
 
--- Files of a job were looked up, one after another from a session without files on: each the first that was then wanted
--- and not looked up yet, by one read each.
+-- Files of a job were looked up, one after another, starting from a session without files, by one read each. Each was
+-- the first that was wanted then and not looked up yet.
 pub record Loads (root : List ℕ) (min : ℕ) (old new : Seen) (files : List LookedUp) : Type 0 where
   pub in_order : InOrder old.held (no_texts root min) [] files
   pub looked_up : LooksUp old new (length files) (all_looked_up files)
 
--- the state after them
+-- the state after these files
 abbrev pub loaded : List ℕ → ℕ → List LookedUp → State
 loaded root min files = after_files (no_texts root min) files
 
--- the lines that tell which of them are refused
+-- the lines that say which of them are refused
 abbrev pub refusals_told : List ℕ → ℕ → List LookedUp → List ℕ
 refusals_told root min files = refusal_lines (no_texts root min) files
 
 -- What is left
 
--- 0 where there were warnings at most, else the status
+-- the exit status: 0 if there were at most warnings, else the run's status
 abbrev pub exit_of : ℕ → ℕ
 exit_of status = if nat_le status 1 then 0 else status
 
@@ -38,7 +38,7 @@ bbl_file s = record { name = s.root ++ codes ".bbl"; bytes = (shown s).bbl }
 abbrev pub blg_file : State → Written
 blg_file s = record { name = s.root ++ codes ".blg"; bytes = (shown s).blg }
 
--- the log that is printed: the terse one where it is asked for
+-- the log that is printed: the terse log, if it is asked for
 abbrev pub printed_log : Bool → State → List ℕ
 printed_log true s = (shown s).terse
 printed_log false s = (shown s).blg
@@ -55,7 +55,7 @@ pub record Finishes (s : State) (log : List ℕ) (old new : Seen) (out out' : Su
   pub quiet : IsTold []
   pub is_exit : exit ≡ exit_of (shown s).status
 
--- Files are written, but then this one can't be. That is reported, and nothing more is written or printed.
+-- These files are written, but then this one can't be. That is reported, and nothing more is written or printed.
 pub record GivesUp (files : List Written) (name : List ℕ) (old new : Seen) (out out' : Sunk)
     (IsTold : List ℕ → Type 0) (exit : ℕ) : Type 0 where
   pub fails : Fails old new files name
@@ -80,7 +80,7 @@ pub record Runs (root : List ℕ) (min : ℕ) (terse : Bool) (old new : Seen) (o
   pub ends : Ends (loaded root min files) (printed_log terse (loaded root min files)) between new out out'
       (λ text. Tells err err' (refusals_told root min files ++ text)) exit
 
--- There is no room to go on. Some of its files were looked up, and nothing is written or printed.
+-- Memory runs out. Some of the job's files were looked up, and nothing is written or printed.
 pub record Stops (root : List ℕ) (min : ℕ) (old new : Seen) (out out' err err' : Sunk) : Type 0 where
   pub files : List LookedUp
   pub loads : Loads root min old new files

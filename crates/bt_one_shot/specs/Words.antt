@@ -38,7 +38,7 @@ abbrev pub command_line : App
 command_line =
     with_rule (with_rule (with_rule (with_rule (new_app (codes "bibtex")) min_rule) terse_rule) resident_rule) job_rule
 
--- the kinds of fault that these words have, help among them; none where the parser takes them
+-- the kinds of fault that these words have, `--help` among them; none if the parser accepts them
 unfoldable pub faults_of : List Text → Kinds
 faults_of words = fault_of command_line words
 
@@ -52,7 +52,7 @@ without_aux name = if ends_with eqb name (codes ".aux") then take (length name -
 abbrev pub number_in : List ℕ → Option ℕ
 number_in text = if is_unsigned_in 0 65535 text then Some (digits_value 10 (without_leading_plus text)) else None
 
--- min-crossrefs by its text
+-- min-crossrefs, given its text
 abbrev pub min_of : Option (List ℕ) → ℕ
 min_of None = 2
 min_of (Some text) = unwrap_or (number_in text) 2
@@ -69,7 +69,7 @@ pub record Invocation : Type 0 where
   pub terse : Bool
   pub resident : Bool
 
--- by what the parser found in them
+-- what words ask for, given what the parser found in them
 abbrev pub asked_by : List Row → Invocation
 asked_by rows =
     record {
@@ -79,6 +79,6 @@ asked_by rows =
       resident = is_set (first_of (codes "resident") rows);
     }
 
--- what these words ask for, where the parser takes them
+-- what these words ask for, if the parser accepts them
 unfoldable pub asked : List Text → Invocation
 asked words = asked_by (matches_of command_line words)

@@ -15,10 +15,10 @@ use bt_text::Bytes;
 use std::alloc::{AllocError, Global};
 use std::mem::forget;
 
-/// What a file that can't be written makes of the exit status.
+/// The exit status if a file can't be written.
 const UNWRITTEN: u8 = 3;
 
-/// The exit status of a run: 0 where there were warnings at most, else the run's status.
+/// The exit status of a run: 0 if it gave at most warnings, else the run's status.
 fn exit_status(status: u8) -> u8
     ensures { result ≡ exit_of status }
 {
@@ -35,7 +35,7 @@ fn printed_log(snapshot: &Snapshot, terse: bool) -> &[u8]
     }
 }
 
-/// Prints a log, as far as that succeeds.
+/// Prints a log. A failure is ignored.
 #[tactic(auto, using(crate::proofs::TellLemmas::printed))]
 fn print_log<O: Sink>(out: &mut O, log: &[u8])
     requires { (O.seen out.old).failures < 2 ^ 64 - 1 }
@@ -44,7 +44,7 @@ fn print_log<O: Sink>(out: &mut O, log: &[u8])
     let _ = say(out, &[log]);
 }
 
-/// What a run writes: the two files of its state by their names, and the log that is printed.
+/// What a run writes: the two files of its state, by their names, and the log that is printed.
 #[derive(Drop)]
 struct Outputs<'a> {
     snapshot: &'a Snapshot,
@@ -87,13 +87,13 @@ fn write_out<F: Folder, O: Sink, E: Sink>(
     exit_status(snapshot.status())
 }
 
-/// Runs a job once: looks up each file that it wants, once each and in the order in which its run looks for them, then
-/// writes its `.bbl` and its `.blg`, and writes the log to `out`. It answers the exit status.
+/// Runs a job once: looks up each file that it wants, once, in the order in which its run looks for them, then writes
+/// its `.bbl` and its `.blg`, and writes the log to `out`. Returns the exit status.
 ///
 /// A file that is refused is reported on `err`, and counts as missing. A file that can't be written is reported on
 /// `err`, the exit status is 3, and nothing is written after it. After its first failure neither `out` nor `err` is
-/// written to again. The one error is out of memory; then nothing was written to the folder. The memory of a job that
-/// was run is left to the end of the program.
+/// written to again. The only error is out of memory; then nothing was written to the folder. The memory of the job
+/// isn't freed before the program ends.
 pub fn one_shot<F: Folder, O: Sink, E: Sink>(
     alloc: Global,
     options: &Options,
@@ -125,7 +125,7 @@ pub fn one_shot<F: Folder, O: Sink, E: Sink>(
         log: printed_log(&snapshot, options.terse),
     };
     let status = write_out(&outputs, folder, out, err, failures_before);
-    // A program that has run its job ends: its texts go with it, at once.
+    // The program ends after its job, which frees all texts at once.
     forget(snapshot);
     Ok(status)
 }

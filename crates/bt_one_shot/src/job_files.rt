@@ -15,7 +15,7 @@ use bt_text::Bytes;
 use itoa::Buffer;
 use std::alloc::{AllocError, Global};
 
-/// Writes pieces of a line to a sink, unless it failed since its failures were counted. A failure is left out.
+/// Writes the pieces of a line to a sink, unless it has failed since its failures were counted. A failure is ignored.
 pub fn tell<E: Sink>(err: &mut E, failures_before: u64, pieces: &[&[u8]])
     requires { failures_before < 2 ^ 64 - 1 }
     ensures { GoesOn failures_before (E.seen err.old) (E.seen err.new)
@@ -40,7 +40,7 @@ fn tell_refused<E: Sink>(err: &mut E, failures_before: u64, refusal: Refusal, na
     );
 }
 
-/// Takes what was found under a name into a draft, and says whether it has changed; or says why it is refused.
+/// Takes what was found under a name into a draft, and returns whether the draft has changed, or why it was refused.
 fn take_in(draft: &mut Draft, name: &[u8], found: Found) -> Result<bool, Refusal>
     ensures { (ran_out : Bool) × TakesIn draft.old draft.new name.now ran_out found result }
 {
@@ -54,7 +54,7 @@ fn take_in(draft: &mut Draft, name: &[u8], found: Found) -> Result<bool, Refusal
     }
 }
 
-/// Looks up a file and takes it into a draft, and says whether that has changed.
+/// Looks up a file and takes it into a draft, and returns whether the draft has changed.
 fn look_up<F: Folder, E: Sink>(
     draft: &mut Draft,
     folder: &mut F,
@@ -77,8 +77,8 @@ fn look_up<F: Folder, E: Sink>(
     }
 }
 
-/// Looks up those names that a draft wants and that are new, in their order, until one changes it, and says whether one
-/// has.
+/// Looks up the names that a draft wants and that are new, in order, until one changes the draft, and returns whether
+/// one has.
 #[tactic(auto, using(crate::proofs::LoadLemmas::goes_none))]
 fn look_up_wanted<F: Folder, E: Sink>(
     alloc: Global,
@@ -107,9 +107,9 @@ fn look_up_wanted<F: Folder, E: Sink>(
     Ok(false)
 }
 
-/// Looks up each file that a draft wants, once each and in the order in which its run looks for them, until it wants no
-/// new one. A file that is refused is reported on `err`, and counts as missing. After out of memory those
-/// are taken in that were looked up before.
+/// Looks up each file that a draft wants, once, in the order in which its run looks for them, until it wants no new
+/// one. A file that is refused is reported on `err`, and counts as missing. After out of memory, the draft has the
+/// files that were looked up before.
 #[tactic(auto, using(crate::proofs::LoadLemmas::goes_none, crate::proofs::LoadLemmas::goes_more))]
 fn load_all<F: Folder, E: Sink>(
     alloc: Global,
@@ -128,8 +128,8 @@ fn load_all<F: Folder, E: Sink>(
     Ok(())
 }
 
-/// What a job means with the files that it wants, looked up once each and in the order in which its run looks for
-/// them. A file that is refused is reported on `err`, and counts as missing. The one error is out of memory.
+/// What a job means with the files that it wants, each looked up once, in the order in which its run looks for them.
+/// A file that is refused is reported on `err`, and counts as missing. The only error is out of memory.
 pub fn load<F: Folder, E: Sink>(
     alloc: Global,
     root: &[u8],

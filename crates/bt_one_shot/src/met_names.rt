@@ -37,7 +37,7 @@ impl NamesMet {
         self.names.len() > 0 && self.names.contains(name)
     }
 
-    /// Puts a new name after the others. After out of memory the names are as before.
+    /// Appends a new name. After out of memory the names are as before.
     pub fn put(&mut self, alloc: Global, name: &[u8]) -> Result<(), AllocError>
         requires { list_any (bytes_eq name.now) self.old ≡ false }
         ensures ok { OnOk result (self.new ≡ self.old ++ name.now ∷ []) }

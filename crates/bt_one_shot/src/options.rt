@@ -20,7 +20,7 @@ use thiserror::Error;
 pub struct Options {
     /// The job's name, without `.aux`.
     pub root: Bytes,
-    /// How many entries have to refer to an uncited one for it to be listed.
+    /// How many entries must refer to an uncited one before it is listed.
     pub min: u32,
     /// Whether the log is printed without the lines of files and the counts of calls.
     pub terse: bool,
@@ -89,9 +89,9 @@ fn is_set(matches: &ArgMatches<'_>, name: &str) -> bool
     }
 }
 
-/// What these words ask for, of which the first is the program's name. A last `.aux` of the job's name is left out.
-/// Words that the parser doesn't take, and `--help`, are `Parser`; a name that isn't a root's is `BadJobName`; out of
-/// memory may stand in the place of either.
+/// What these words ask for, the first of which is the program's name. An `.aux` at the end of the job's name is
+/// dropped. The error is `Parser` for words that the parser doesn't accept, and for `--help`; `BadJobName` for a name
+/// that a root can't have; or out of memory instead of either.
 pub fn parse_options(alloc: Global, words: &[String]) -> Result<Options, OptionsFault>
     ensures taken { IfOk result (λ _. faults_of (map string_bytes words.now) ≡ []) }
     ensures asked { IfOk result (λ options. asked_of options ≡ asked (map string_bytes words.now)) }

@@ -12,7 +12,7 @@ offset_of c p text =
     let start = place_of_line Editor p.line text in
     start + fitting c p.character (first_line (drop start text))
 
--- the position that so many bytes precede
+-- the position after this many bytes
 abbrev pub position_of : Counting → ℕ → List ℕ → Position
 position_of c n text =
     let start = min (place_of_line Editor (line_ends n text) text) n in

@@ -100,7 +100,7 @@ impl IndexedText {
     }
 
     /// The offset of a position. A character after its line's end gives the line's end, and a line after the last one
-    /// gives the text's end. The second unit of a character in UTF-16 gives that character's begin; in UTF-8 a position
+    /// gives the text's end. The second unit of a character in UTF-16 gives that character's beginning; in UTF-8 a position
     /// inside a character gives an offset inside it.
     pub fn offset_of(&self, counting: Counting, position: Position) -> usize
         ensures value { result ≡ offset_of counting position self.now }

@@ -2,7 +2,7 @@
 //!
 //! Which entries are stored and listed, in what order, under which key, and who refers to whom: all that depends on keys,
 //! types and `crossref` fields. So an edit in any other field leaves it as it was. If the changed entry refers to none,
-//! and none refers to it, then only this entry is seen differently, and only its messages are new; those behind it move.
+//! and none refers to it, then only this entry is seen differently, and only its messages are new; those after it move.
 //! Any other edit is resolved anew.
 //!
 //! What is kept beside the answer isn't touched by such an edit, so it needn't be patched: how far the reading was before
@@ -36,7 +36,7 @@ use std::marker::Model;
 /// What was found for a question, with what an edit needs.
 #[derive(Drop)]
 pub struct Found {
-    /// What macros stand for behind all items.
+    /// What macros stand for after all items.
     pub macros: ByName<MacroText>,
     /// The stored entries, but perhaps with older values.
     pub store: Store,
@@ -75,7 +75,7 @@ pub struct ResolvedEdit {
     pub messages: Sequence<Message>,
 }
 
-/// How far the reading was before a span of pieces, behind it, and at the end of its database.
+/// How far the reading was before a span of pieces, after it, and at the end of its database.
 #[derive(Clone, Copy)]
 pub struct Around {
     pub first: Reach,
@@ -226,8 +226,8 @@ impl Resolution {
         &self.found.all
     }
 
-    /// What an edit of a database changes that has these items after it. None where it is more than one entry: then all
-    /// has to be resolved anew. The only error is out of memory.
+    /// What an edit changes that leaves these items in a database. None if that is more than one entry; then everything
+    /// must be resolved anew. The only error is out of memory.
     pub fn edit(
         &self,
         alloc: Global,
@@ -260,7 +260,7 @@ impl Resolution {
         Ok(made)
     }
 
-    /// Puts an edit of a database in place, which has these items after it.
+    /// Puts an edit in place that leaves these items in a database.
     pub fn put(&mut self, number: usize, items: Shared<Items>, edit: ResolvedEdit)
         requires { IsResolvedEdit self.old number items edit }
         ensures { self.new ≡ with_database number items self.old }

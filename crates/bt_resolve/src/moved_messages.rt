@@ -1,6 +1,6 @@
 //! The messages after an edit, from those before it.
 //!
-//! Messages of items behind the edit stay, but for their lines and places. A line or place that would overflow isn't
+//! Messages of items after the edit stay, but for their lines and places. A line or place that would overflow isn't
 //! moved: then there is no answer, and the caller resolves anew. So no bound on lines has to be known here.
 
 ghost use Rattle.std.specs.Prelude.{◌≡◌, ◌++◌, ◌+◌, ◌-◌, ◌≤◌, map, take, drop, length, option_map, IfOk, IfSome, IsTrue, OnOk};
@@ -93,8 +93,8 @@ fn add_rebased(
     Ok(true)
 }
 
-/// All messages after an edit: `told` takes the place of those about the pieces that are replaced. The text of the
-/// pieces behind them, in the same database, has moved. None where a line or place would overflow.
+/// All messages after an edit: `told` replaces those about the replaced pieces. The text of the pieces after them, in
+/// the same database, has moved. None if a line or place would overflow.
 pub fn patched(
     alloc: Global,
     all: &[Message],

@@ -23,7 +23,7 @@ pub enum SeenEdit {
     Other(usize, Entry),
 }
 
-/// Where a number stands in a list.
+/// Where a number is in a list.
 #[derive(Clone, Copy)]
 pub enum Only {
     Nowhere,
@@ -112,8 +112,8 @@ fn entry_edit(
     }
 }
 
-/// What becomes of the entries that are seen, once at most one is stored in the place of another of its skeleton. None
-/// where it refers to one, or one refers to it, or more than one are stored.
+/// What becomes of the entries that are seen, if at most one stored entry replaces another of its skeleton. None if it
+/// refers to another one, another one refers to it, or more than one are stored.
 pub fn seen_edit(
     alloc: Global,
     asked: &Asked<'_>,

@@ -46,7 +46,7 @@ fn are_plain(databases: &[Shared<Items>]) -> bool
     true
 }
 
-/// Whether at most one piece of a database comes in the place of another of its skeleton, and no string stands behind it,
+/// Whether at most one piece of a database replaces another of its skeleton, and no string comes after it,
 /// nor in the later databases.
 pub fn is_short(old: &[PlacedPiece], later: &[Shared<Items>], edit: &ItemsEdit) -> bool
     requires order { edit.now.before ≤ edit.now.upto }

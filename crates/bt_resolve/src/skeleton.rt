@@ -1,8 +1,8 @@
-//! Whether items stand in the place of others.
+//! Whether items can replace others without changing what is stored.
 //!
-//! What is listed, in what order, what refers to what: all that depends on the keys, types and `crossref` fields of the
-//! stored entries alone, their *skeletons*. So an edit of other fields leaves it as it was. Both versions of a
-//! `crossref` are compared by their parts: equal parts have equal values, whatever the macros.
+//! What is listed, in what order, and what refers to what depends only on the keys, types and `crossref` fields of the
+//! stored entries, their *skeletons*. An edit of other fields leaves all this as it was. Both versions of a `crossref`
+//! are compared by their parts: equal parts have equal values, whatever the macros.
 
 ghost use Rattle.std.specs.Prelude.{◌≡◌, IsTrue, find, option_copied};
 ghost use Rattle.bt_text.specs.CaseFolding.{is_same_folded};

@@ -1,8 +1,8 @@
 //! The entry that an edit brings, read in the place of another.
 //!
-//! Whether an entry is stored depends on the keys and `crossref` fields of those before it. An entry of the same skeleton
-//! in the same place is stored exactly if the old one was. So what the old one gave tells, and nothing is looked up among
-//! the stored entries, which by now have those behind it too.
+//! Whether an entry is stored depends on the keys and `crossref` fields of those before it. An entry of the same
+//! skeleton in the same place is stored exactly if the old one was. So what the old one gave shows whether it is, and
+//! nothing is looked up among the stored entries, which by now include later ones.
 
 ghost use Rattle.std.specs.Prelude.{◌≡◌, ◌≤◌, ◌++◌, ◌∷◌, [], length, IfOk, IfSome, IsTrue, OnOk};
 ghost use Rattle.bt_bib.specs.Items.{items_of};
@@ -44,8 +44,8 @@ fn nothing(alloc: Global) -> Span
     }
 }
 
-/// Whether the mark tells if the entry is wanted. An entry that isn't stored but gave messages may be a repeated one, or
-/// have a fault.
+/// Whether the mark shows if the entry is wanted. An entry that isn't stored but gave messages may be a repeated one,
+/// or have a fault.
 fn tells(mark: Mark) -> bool
     ensures { result ≡ tells mark }
 {
@@ -114,7 +114,7 @@ fn is_entry_item(item: &Item) -> bool
     }
 }
 
-/// Reads the piece that replaces one with this mark. None if it isn't an entry, or the mark doesn't tell whether it is
+/// Reads the piece that replaces one with this mark. None if it isn't an entry, or the mark doesn't show whether it is
 /// wanted.
 fn piece_by(
     alloc: Global,
@@ -148,8 +148,8 @@ fn piece_by(
     Ok(Some(span))
 }
 
-/// Reads at most one piece of a database in the place of one with this mark. None where it is no entry of which the mark
-/// tells.
+/// Reads at most one piece of a database in the place of one with this mark. None if it isn't an entry, or the mark
+/// doesn't show whether it is wanted.
 pub fn read_span(
     alloc: Global,
     asked: &Asked<'_>,

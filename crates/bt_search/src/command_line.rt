@@ -4,7 +4,7 @@ use std::alloc::AllocError;
 use std::env;
 use std::io::ErrorKind;
 
-/// The words of the command line; none if they aren't UTF-8. The one error is out of memory.
+/// The words of the command line; none if they aren't UTF-8. The only error is out of memory.
 pub fn words(rt: &HostRuntime) -> Result<Option<Vec<String>>, AllocError> {
     match env::args(rt) {
         Ok(args) => {

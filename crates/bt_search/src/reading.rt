@@ -5,7 +5,7 @@ use std::alloc::{AllocError, Global};
 use std::fs;
 use std::io::{ErrorKind, Read};
 
-/// The bytes of a file, or `None` if there is none of this name that can be read. The one error is out of memory.
+/// The bytes of a file, or `None` if there is none of this name that can be read. The only error is out of memory.
 pub fn read(alloc: Global, rt: &HostRuntime, path: &str) -> Result<Option<Bytes>, AllocError> {
     let Ok(mut file) = fs::open(rt, path) else {
         return Ok(None);

@@ -1,6 +1,6 @@
-//! What the program and the shell script that starts it tell one another. The script knows `kpsewhich` and the other
-//! programs of the machine; it tells of them by environment variables, and reads what is asked of it from a file of its
-//! own that one of them names.
+//! How the program and the shell script that starts it communicate. The script can call `kpsewhich` and other programs. It
+//! passes what they answer in environment variables, and reads the program's questions from a file that one of these
+//! variables names.
 
 use crate::reading::read;
 use bt_text::Bytes;
@@ -17,20 +17,20 @@ pub const HAND_OVER: u8 = 76;
 /// The paths that `kpsewhich` found, by the names that it was asked for.
 type Places = IndexMap<Vec<u8>, Bytes>;
 
-/// What the script said.
+/// What the script passed.
 #[derive(Drop)]
 pub struct Script {
     /// The file that the script reads, if it does.
     asking: Option<String>,
     /// What `kpsewhich` found, if it was asked.
     places: Option<Places>,
-    /// Whether files in the folder have no precedence, since BIBINPUTS or BSTINPUTS is set.
+    /// Whether files in the folder don't come first, because BIBINPUTS or BSTINPUTS is set.
     pub search_all: bool,
     /// The letter of TeX's rule for files that are written.
     pub rule: Option<String>,
     /// The folder that TEXMFOUTPUT names.
     pub output: Option<String>,
-    /// What keeps the files of two programs apart that run at once.
+    /// A mark that keeps apart the files of two programs that run at once.
     mark: Option<String>,
 }
 
@@ -44,11 +44,11 @@ fn variable(rt: &HostRuntime, name: &str) -> Result<Option<String>, AllocError> 
     }
 }
 
-/// What stands between two answers of `kpsewhich`: it is asked for this file too, after each name.
+/// What separates two answers of `kpsewhich`: it is asked for this file, too, after each name.
 const BETWEEN: &[u8] = b"/dev/null";
 
-/// What `kpsewhich` was asked for up to an empty line, and behind it its answers in the same order. A file that it didn't
-/// find has none, and the first of several counts.
+/// The names that `kpsewhich` was asked for, up to an empty line, and then its answers in the same order. A file that it
+/// didn't find has no answer; of several answers the first one counts.
 fn places(alloc: Global, text: &[u8]) -> Result<Places, AllocError> {
     let mut lines = text.split(|byte| *byte == b'\n');
     let mut names = Vec::new(alloc);
@@ -74,7 +74,7 @@ fn places(alloc: Global, text: &[u8]) -> Result<Places, AllocError> {
     Ok(places)
 }
 
-/// What `kpsewhich` found, as a file tells it.
+/// What `kpsewhich` found, read from a file.
 fn places_in(alloc: Global, rt: &HostRuntime, path: &str) -> Result<Places, AllocError> {
     match read(alloc, rt, path)? {
         Some(text) => places(alloc, text.as_slice()),
@@ -95,7 +95,7 @@ fn question(alloc: Global, missing: &[Bytes]) -> Result<Bytes, AllocError> {
 }
 
 impl Script {
-    /// What the environment says of the script. Without one, nothing.
+    /// What the environment says about the script; nothing if there is none.
     pub fn of(rt: &HostRuntime) -> Result<Script, AllocError> {
         let alloc = rt.alloc();
         let places = match variable(rt, "DULSHENKO_FOUND")? {
@@ -122,7 +122,7 @@ impl Script {
         self.asking.is_some() && self.places.is_none()
     }
 
-    /// Writes what is asked of the script. It says whether that succeeded.
+    /// Writes the questions for the script, and returns whether that succeeded.
     pub fn ask(&self, rt: &HostRuntime, text: &[u8]) -> bool {
         match &self.asking {
             Some(path) => fs::write(rt, path.as_str(), text).is_ok(),
@@ -130,8 +130,7 @@ impl Script {
         }
     }
 
-    /// Asks the script to find missing files, and says whether that succeeded; none if there are none that it hasn't looked
-    /// for.
+    /// Asks the script to find missing files, and returns whether that succeeded; none if it has looked for all of them.
     pub fn ask_for_files(
         &self,
         rt: &HostRuntime,
@@ -152,7 +151,7 @@ impl Script {
         Some(self.places.as_ref()?.get(name)?.as_slice())
     }
 
-    /// What keeps this program's files apart from those of others that run at once.
+    /// A mark that keeps this program's files apart from those of others that run at once.
     pub fn mark(&self) -> &str {
         match &self.mark {
             Some(mark) => mark.as_str(),

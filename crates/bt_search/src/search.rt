@@ -122,7 +122,7 @@ impl<'a> Search<'a> {
         Ok(())
     }
 
-    /// Looks up all files that a job names. The one error is out of memory.
+    /// Looks up all files that a job names. The only error is out of memory.
     pub fn run(&mut self, job: &str) -> Result<(), AllocError> {
         let mut done = 0usize;
         'rounds: for _ in 0..DEEPEST {

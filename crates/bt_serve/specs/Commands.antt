@@ -16,24 +16,24 @@ pub data Request : Type 0 where
   edit : Edit → ℕ → Request
   bbl blg status quit unreadable too_long : Request
 
--- a command as it stands in an input: its line, and the bytes that follow the line
+-- a command of an input: its line, and the bytes that follow the line
 pub record Command : Type 0 where
   pub line : List ℕ
   pub bytes : List ℕ
 
 -- What a line asks for
 
--- the words of a line, which single spaces part
+-- the words of a line: what is between its spaces
 abbrev pub words_in_line : List ℕ → List (List ℕ)
 words_in_line line = slice_split (λ b. b == 32) line
 
--- what `write` asks for, by its name and its number
+-- what `write` asks for with this name and number; a number that can't be read is none
 abbrev pub write_of : List ℕ → Option ℕ → Request
 write_of [] n = unreadable
 write_of (b ∷ name) None = unreadable
 write_of (b ∷ name) (Some n) = edit (write (b ∷ name) []) n
 
--- what `splice` asks for, by its name and its numbers
+-- what `splice` asks for with this name and these numbers
 abbrev pub splice_of : List ℕ → Option ℕ → Option ℕ → Option ℕ → Request
 splice_of [] s e n = unreadable
 splice_of (b ∷ name) None e n = unreadable
@@ -41,17 +41,17 @@ splice_of (b ∷ name) (Some s) None n = unreadable
 splice_of (b ∷ name) (Some s) (Some e) None = unreadable
 splice_of (b ∷ name) (Some s) (Some e) (Some n) = edit (splice (b ∷ name) s e []) n
 
--- what `remove` asks for, by its name
+-- what `remove` asks for with this name
 abbrev pub remove_of : List ℕ → Request
 remove_of [] = unreadable
 remove_of (b ∷ name) = edit (remove (b ∷ name)) 0
 
--- what `root` asks for, by its name
+-- what `root` asks for with this name
 abbrev pub root_of : List ℕ → Request
 root_of [] = unreadable
 root_of (b ∷ name) = edit (root_name (b ∷ name)) 0
 
--- what `min` asks for, by its number, which is below 2^32
+-- what `min` asks for with this number, which must be below 2^32
 abbrev pub min_of : Option ℕ → Request
 min_of None = unreadable
 min_of (Some n) = if nat_le n 4294967295 then edit (min_crossrefs n) 0 else unreadable
@@ -103,7 +103,7 @@ accepted r =
 abbrev pub refused : Refusal → List ℕ
 refused refusal = codes "refused " ++ (decimal (code_of refusal) ++ codes "\n")
 
--- the answer to an edit of a state with this outcome
+-- the answer to an edit of this state with this outcome
 abbrev pub edit_answer : State → Result State Refusal → List ℕ
 edit_answer old (Ok state) = accepted (reported old state)
 edit_answer old (Err refusal) = refused refusal
@@ -116,7 +116,7 @@ number_line word n = word ++ (decimal n ++ codes "\n")
 abbrev pub text_answer : List ℕ → List ℕ → List ℕ
 text_answer word text = word ++ (decimal (length text) ++ (codes "\n" ++ text))
 
--- the answer to a request with these bytes
+-- the answer to a request with these bytes; `ran_out` says whether memory ran out
 abbrev pub answer_of : Bool → State → Request → List ℕ → List ℕ
 answer_of ran_out state (edit e n) bytes =
     edit_answer state (unless_out_of_memory ran_out (applied (with_bytes bytes e) state))
@@ -127,7 +127,7 @@ answer_of ran_out state quit bytes = codes "bye\n"
 answer_of ran_out state unreadable bytes = codes "fault 1\n"
 answer_of ran_out state too_long bytes = codes "fault 2\n"
 
--- the state after it
+-- the state after the request
 abbrev pub after_of : Bool → State → Request → List ℕ → State
 after_of ran_out state (edit e n) bytes =
     state_or state (unless_out_of_memory ran_out (applied (with_bytes bytes e) state))
@@ -141,34 +141,34 @@ answer ran_out state c = answer_of ran_out state (request_of c.line) c.bytes
 abbrev pub after : Bool → State → Command → State
 after ran_out state c = after_of ran_out state (request_of c.line) c.bytes
 
--- The answers to commands, one after another, where a list of truth values says which edits ran out of memory.
+-- The answers to commands, one after another. The list of truth values says at which of them memory ran out.
 abbrev pub answers_to : List Bool → List Command → State → List ℕ
 answers_to [] cs state = []
 answers_to (m ∷ ms) [] state = []
 answers_to (m ∷ ms) (c ∷ cs) state = answer m state c ++ answers_to ms cs (after m state c)
 
--- the state after them
+-- the state after these commands
 abbrev pub state_after : List Bool → List Command → State → State
 state_after [] cs state = state
 state_after (m ∷ ms) [] state = state
 state_after (m ∷ ms) (c ∷ cs) state = state_after ms cs (after m state c)
 
--- a truth value is true only at a request that is answered by the refusal as out of memory
+-- Memory may run out only at a request that is then refused for this reason.
 abbrev pub MayRunOut : Bool → State → Request → List ℕ → Type 0
 MayRunOut ran_out state request bytes = ran_out ≡ true → answer_of ran_out state request bytes ≡ refused OutOfMemory
 
--- each of the truth values is true only there
+-- the same for each of these commands
 abbrev pub MayRunOutInTurn : List Bool → List Command → State → Type 0
 MayRunOutInTurn [] cs state = Unit {0}
 MayRunOutInTurn (m ∷ ms) [] state = Unit {0}
 MayRunOutInTurn (m ∷ ms) (c ∷ cs) state =
     MayRunOut m state (request_of c.line) c.bytes × MayRunOutInTurn ms cs (after m state c)
 
--- a command as it is spelled where a line feed ends its line
+-- the bytes of a command whose line ends with a line feed
 abbrev pub command_text : Command → List ℕ
 command_text c = c.line ++ 10 ∷ c.bytes
 
--- whether nothing is read after it
+-- whether a request ends the loop
 abbrev pub ends : Request → Bool
 ends quit = true
 ends _ = false

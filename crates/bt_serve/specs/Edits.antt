@@ -19,15 +19,15 @@ edit_in _ bytes = []
 abbrev pub edits_of : List Command → List Edit
 edits_of cs = flat_map (λ c. edit_in (request_of c.line) c.bytes) cs
 
--- `edit_all` of these edits may lead from one state to another: each is answered as it must be, with the report of its
--- work, and the second state is the result of the accepted ones.
+-- `edit_all` of these edits can lead from one state to another: each is answered as it must be and reports its work,
+-- and the second state is the result of the accepted ones.
 abbrev pub Leads : List Edit → State → State → Type 0
 Leads es state state' =
     (answers : List (Result Report Refusal)) × AnswersInTurn es answers state × ReportsInTurn es answers state ×
     (state' ≡ after_answers es answers state)
 
--- What the loop's edits lead to, by how it ends: those of all commands of its input up to the one that ends it; at a
--- read or a write that failed those of some of the first ones.
+-- The state in which the loop ends: `edit_all` can lead there, by the edits of all commands up to the one that ends the
+-- loop, or, after a failed read or write, by those of the first few commands.
 abbrev pub IsEdited : {A : Type 0} → Result A ServeFault → List ℕ → State → State → Type 0
 IsEdited (Ok x) input state state' = Leads (edits_of (up_to_quit (commands_of input).commands)) state state'
 IsEdited (Err Truncated) input state state' = Leads (edits_of (up_to_quit (commands_of input).commands)) state state'

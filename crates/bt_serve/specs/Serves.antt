@@ -1,4 +1,4 @@
--- What one turn of the loop does, where the source and the sink tell their bytes.
+-- What one turn of the loop does, if the source and the sink show their bytes.
 use Rattle.std.specs.Prelude.{◌≡◌, ℕ, ◌<◌, ◌++◌, ◌≢◌, ◌⊎◌, flat_map, Bool, true, false, List, [], ◌∷◌, length, Some, Result, Ok, Err}
 use Rattle.std.specs.List.{AllByRecursion}
 use Rattle.bt_streams.specs.Reads.{HasNoFeed}
@@ -12,7 +12,7 @@ use Rattle.bt_serve.specs.declared.fault.ServeFault.TheVariants.{ReadFailed, Wri
 abbrev pub IsCommand : Command → Type 0
 IsCommand c = HasNoFeed c.line × (length c.bytes ≡ bytes_brought (request_of c.line))
 
--- a command that stands at the end of an input, without a line feed
+-- a command at the end of an input, without a line feed
 abbrev pub IsLast : Command → List ℕ → List ℕ → Type 0
 IsLast c input rest = (c.line ≢ []) × (c.bytes ≡ []) × (input ≡ c.line) × (rest ≡ [])
 
@@ -28,7 +28,7 @@ IsCut text =
     (line : List ℕ) × (bytes : List ℕ) × HasNoFeed line ×
     ((text ≡ line ++ 10 ∷ bytes) ⊎ ((text ≡ line) × (bytes ≡ []))) × (length bytes < bytes_brought (request_of line))
 
--- One turn of the loop: what it reads of the input, what is written then, and the state then. `Ok true` ends the loop.
+-- One turn of the loop: what is left of the input after it, what is written by then, and the state. `Ok true` ends it.
 abbrev pub Turn : List ℕ → List ℕ → List ℕ → List ℕ → State → State → Result Bool ServeFault → Type 0
 Turn input rest said said' state state' (Ok false) =
     (c : Command) × (ran_out : Bool) × IsCommand c × (input ≡ command_text c ++ rest) ×
@@ -49,7 +49,7 @@ Turn input rest said said' state state' (Err ReadFailed) =
     (read : List ℕ) × (input ≡ read ++ rest) × IsPartial read × (said' ≡ said) × (state' ≡ state)
 Turn input rest said said' state state' (Err Truncated) = IsCut input × (rest ≡ []) × (said' ≡ said) × (state' ≡ state)
 
--- Commands that were answered, one after another: all of them, none the last one.
+-- These commands were read and answered, one after another, and none of them ends the loop.
 pub record Answered (input rest said said' : List ℕ) (state state' : State) (cs : List Command) (ms : List Bool) :
     Type 0 where
   pub each : AllByRecursion IsCommand cs
@@ -60,18 +60,18 @@ pub record Answered (input rest said said' : List ℕ) (state state' : State) (c
   pub edited : state' ≡ state_after ms cs state
   pub wanting : MayRunOutInTurn ms cs state
 
--- Whole commands were answered, and then the last turn was this one.
+-- Commands were answered, and then this was the last turn.
 abbrev pub Ends : List ℕ → List ℕ → List ℕ → List ℕ → State → State → Result Bool ServeFault → Type 0
 Ends input rest said said' state state' result =
     (cs : List Command) × (ms : List Bool) × (mid : List ℕ) × (told : List ℕ) × (between : State) ×
     Answered input mid said told state between cs ms × Turn mid rest told said' between state' result
 
--- the loop's end, as that of its last turn
+-- the result of the loop, as the result of its last turn
 abbrev pub loop_ended : {A : Type 0} → Result A ServeFault → Result Bool ServeFault
 loop_ended (Ok x) = Ok true
 loop_ended (Err fault) = Err fault
 
--- the same, where the source and the sink show their bytes
+-- the whole loop, if the source and the sink show their bytes
 abbrev pub Serves : {A : Type 0} → Drawn → Drawn → Sunk → Sunk → State → State → Result A ServeFault → Type 0
 Serves old new held held' state state' result = (input said : List ℕ) → old.rest ≡ Some input →
     held.contents ≡ Some said →

@@ -5,31 +5,31 @@ use Rattle.bt_serve.specs.Serves.{IsCut}
 use Rattle.bibtex.specs.declared.state.State.{State}
 use Rattle.bt_serve.specs.Commands.{Command, request_of, bytes_brought, ends, answer, after, answers_to, state_after, MayRunOut, MayRunOutInTurn}
 
--- an input's commands, and what is left when they are cut off
+-- an input's commands, and what is left after them
 pub record Cut : Type 0 where
   pub commands : List Command
   pub rest : List ℕ
 
--- a line, and what stands after its line feed where it has one
+-- a line, and what follows its line feed, if it has one
 pub record Line : Type 0 where
   pub line : List ℕ
   pub after_feed : Option (List ℕ)
 
--- what stands before the first line feed of a text, or all of it
+-- what is before the first line feed of a text, or all of it
 abbrev pub before_feed : List ℕ → List ℕ
 before_feed [] = []
 before_feed (b ∷ t) = if b == 10 then [] else b ∷ before_feed t
 
--- what stands after the first line feed of a text, where it has one
+-- what follows the first line feed of a text, if it has one
 abbrev pub behind_feed : List ℕ → Option (List ℕ)
 behind_feed [] = None
 behind_feed (b ∷ t) = if b == 10 then Some t else behind_feed t
 
--- the first line of a text, and what stands after its line feed where it has one
+-- the first line of a text, and what follows its line feed, if it has one
 abbrev pub first_line : List ℕ → Line
 first_line text = record { line = before_feed text; after_feed = behind_feed text }
 
--- what follows a line, the last one of an input too
+-- what follows a line; nothing after the last line of an input
 abbrev pub text_after_line : Line → List ℕ
 text_after_line l = elim l.after_feed [ Some t ↦ t | None ↦ [] ]
 
@@ -37,7 +37,7 @@ text_after_line l = elim l.after_feed [ Some t ↦ t | None ↦ [] ]
 abbrev pub with_first : Command → Cut → Cut
 with_first c cut = record { commands = c ∷ cut.commands; rest = cut.rest }
 
--- the command of a line, and then those of what stands after it; or nothing, where its bytes are cut short
+-- the command of a line, and then those of what follows it; or none, if its bytes are cut short
 abbrev pub command_at : Line → List ℕ → (List ℕ → Cut) → Cut
 command_at l text others =
     let count = bytes_brought (request_of l.line) in
@@ -57,13 +57,13 @@ commands_within (suc n) (b ∷ t) =
 abbrev pub commands_of : List ℕ → Cut
 commands_of input = commands_within (length input) input
 
--- up to the first that ends the loop
+-- the commands up to the first that ends the loop
 abbrev pub up_to_quit : List Command → List Command
 up_to_quit [] = []
 up_to_quit (c ∷ cs) = if ends (request_of c.line) then c ∷ [] else c ∷ up_to_quit cs
 
--- All commands of an input up to the one that ends the loop were answered, for some choice of the edits that were
--- refused as out of memory.
+-- All commands of an input up to the one that ends the loop were answered. Which edits were refused for out of memory
+-- is left open.
 abbrev pub AnswersAll : List ℕ → List ℕ → List ℕ → State → State → Type 0
 AnswersAll input said said' state state' =
     (ms : List Bool) × (length ms ≡ length (up_to_quit (commands_of input).commands)) ×
@@ -71,7 +71,7 @@ AnswersAll input said said' state state' =
     (state' ≡ state_after ms (up_to_quit (commands_of input).commands) state) ×
     MayRunOutInTurn ms (up_to_quit (commands_of input).commands) state
 
--- All commands of an input were answered, none ends the loop, and after them the input is cut short.
+-- All complete commands of an input were answered, none ends the loop, and after them the input is cut short.
 abbrev pub AnswersBefore : List ℕ → List ℕ → List ℕ → State → State → Type 0
 AnswersBefore input said said' state state' =
     (ms : List Bool) × (length ms ≡ length (commands_of input).commands) ×
@@ -80,7 +80,8 @@ AnswersBefore input said said' state state' =
     MayRunOutInTurn ms (commands_of input).commands state ×
     AllByRecursion (λ c. false ≡ ends (request_of c.line)) (commands_of input).commands × IsCut (commands_of input).rest
 
--- The commands before one were answered, a beginning of its answer was written, and the state are those after it.
+-- All commands before some command were answered; of its own answer a prefix was written; and the state is the one
+-- after this command.
 abbrev pub AnswersPart : List ℕ → List ℕ → List ℕ → State → State → Type 0
 AnswersPart input said said' state state' =
     (front : List Command) × (c : Command) × (others : List Command) × (ms : List Bool) × (m : Bool) ×

@@ -47,7 +47,7 @@ fn take_edit<S: Source>(
     }
 }
 
-/// Room for `count` bytes; none where memory lacks, or where no edit may bring that many.
+/// Room for `count` bytes; none if memory runs out, or if no edit may bring that many.
 fn room(alloc: Global, count: usize) -> Option<Vec<u8>>
     ensures { IfSome result (λ bytes. length bytes.items ≡ count) }
 {
@@ -57,7 +57,7 @@ fn room(alloc: Global, count: usize) -> Option<Vec<u8>>
     vec![in alloc; 0; count].ok()
 }
 
-/// Answers an edit that doesn't have its bytes yet; they are next in the source. It isn't the last command.
+/// Answers an edit whose bytes are next in the source. It isn't the last command.
 fn answer_edit<S: Source, K: Sink>(
     alloc: Global,
     source: &mut S,

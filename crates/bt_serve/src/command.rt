@@ -11,7 +11,7 @@ use bt_streams::number;
 /// What a line asks for.
 #[derive(Clone, Copy)]
 pub enum Request<'a> {
-    /// An edit, and how many bytes follow the line, which it brings. It has none in hand yet.
+    /// An edit, still without its bytes, and how many of them follow the line.
     Edit(Edit<'a>, usize),
     Bbl,
     Blg,
@@ -19,7 +19,7 @@ pub enum Request<'a> {
     Quit,
     /// Nothing that the loop knows.
     Unreadable,
-    /// Nothing, since the line has more than 256 bytes.
+    /// Nothing, because the line has more than 256 bytes.
     TooLong,
 }
 

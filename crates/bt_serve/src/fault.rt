@@ -9,9 +9,9 @@ use thiserror::Error;
 #[derive(Clone, Copy, Debug, PartialEq, Eq, Error)]
 #[error("{:?}", self)]
 pub enum ServeFault {
-    /// A read failed. What was read whole is carried out and answered.
+    /// A read failed. The commands that were read completely are carried out and answered.
     ReadFailed,
-    /// A write failed. The command whose answer it was is carried out.
+    /// A write failed. The command that it answered is carried out.
     WriteFailed,
     /// The input ended inside the bytes of a command, which isn't carried out.
     Truncated,

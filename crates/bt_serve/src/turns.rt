@@ -51,14 +51,14 @@ fn serve_one<S: Source, K: Sink>(
     }
 }
 
-/// Reads commands from a source, carries them out on a session, and writes the answers to a sink, each handed on before
-/// the next read, up to `quit`, the end of the input, or a fault. The session is then one that `edit_all` leaves of the
-/// edits that the commands ask for.
+/// Reads commands from a source, carries them out on a session, and writes the answers to a sink, up to `quit`, the
+/// end of the input, or a fault. Each answer is flushed before the next read. The session is then one that `edit_all`
+/// of the commands' edits can leave.
 ///
-/// The faults: `ReadFailed` where a read failed; the whole commands that were read are carried out and answered.
-/// `WriteFailed` where a write failed; the commands before one are carried out and answered, that one is carried
-/// out, and a beginning of its answer is written. `Truncated` where the input ends inside the bytes of its last
-/// command; all commands before it are carried out and answered.
+/// The faults: `ReadFailed`, if a read failed; the commands that were read completely are carried out and answered.
+/// `WriteFailed`, if a write failed; a prefix of that answer is written, its command is carried out, and all commands
+/// before it are carried out and answered. `Truncated`, if the input ends inside the bytes of its last command; all
+/// commands before it are carried out and answered.
 pub fn serve<S: Source, K: Sink>(
     alloc: Global,
     source: &mut S,

@@ -1,4 +1,4 @@
--- What is read of a source: a byte, a line, a part of one, counted bytes.
+-- What is read from a source: a byte, a line, a part of a line, counted bytes.
 use Rattle.std.specs.Prelude.{◌≡◌, ◌≢◌, ℕ, ◌<◌, ◌++◌, List, [], ◌∷◌, length, take, Option, None, Some, Bool, true, false}
 use Rattle.std.specs.Io.KnownBytes.{Consumes, IsAtEnd}
 use Rattle.bt_streams.specs.declared.input.LineEnd.{LineEnd}
@@ -14,7 +14,7 @@ abbrev pub ReadsByte : Option (List ℕ) → Option (List ℕ) → Option ℕ �
 ReadsByte old new None = Consumes old new [] × IsAtEnd new
 ReadsByte old new (Some b) = Consumes old new (b ∷ [])
 
--- a line, and its line feed where it has one
+-- a line, and its line feed, if it has one
 abbrev pub ReadsLine : Option (List ℕ) → Option (List ℕ) → List ℕ → LineEnd → Type 0
 ReadsLine old new buffer (Feed n) =
     (n < length buffer) × HasNoFeed (take n buffer) × Consumes old new (take n buffer ++ 10 ∷ [])
@@ -40,7 +40,7 @@ abbrev pub ReadsAll : Option (List ℕ) → Option (List ℕ) → List ℕ → B
 ReadsAll old new buffer true = Consumes old new buffer
 ReadsAll old new buffer false = (n : ℕ) × (n < length buffer) × Consumes old new (take n buffer) × IsAtEnd new
 
--- a number of bytes, whatever they are, or fewer and the end
+-- this number of bytes, whatever they are, or fewer and the end
 abbrev pub DropsAll : Option (List ℕ) → Option (List ℕ) → ℕ → Bool → Type 0
 DropsAll old new n true = (bytes : List ℕ) × (length bytes ≡ n) × Consumes old new bytes
 DropsAll old new n false = (bytes : List ℕ) × (length bytes < n) × Consumes old new bytes × IsAtEnd new

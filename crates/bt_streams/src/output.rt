@@ -6,7 +6,7 @@ ghost use Rattle.bt_streams.specs.Writes.{Writes, Says};
 
 use crate::streams::{Sink, StreamFailed};
 
-/// Writes all the bytes, and hands nothing on. After a failure a beginning of them is written.
+/// Writes all the bytes, and doesn't flush. After a failure only a prefix of them is written.
 pub fn write_all<K: Sink>(sink: &mut K, bytes: &[u8]) -> Result<(), StreamFailed>
     requires { (K.seen sink.old).failures < 2 ^ 64 - 1 }
     ensures { Writes (K.seen sink.old) (K.seen sink.new) bytes.now result }
@@ -28,7 +28,7 @@ fn write_pieces<K: Sink>(sink: &mut K, pieces: &[&[u8]]) -> Result<(), StreamFai
     Ok(())
 }
 
-/// Writes the pieces of an answer one after another, and hands them on. After a failure a beginning of them is written.
+/// Writes the pieces of an answer one after another, and flushes. After a failure only a prefix of them may be written.
 #[tactic(auto, using(crate::proofs::WriteLemmas::handed_on))]
 pub fn say<K: Sink>(sink: &mut K, pieces: &[&[u8]]) -> Result<(), StreamFailed>
     requires { (K.seen sink.old).failures < 2 ^ 64 - 1 }

@@ -59,7 +59,7 @@ impl<R: Read + Drop> Source for ReaderSource<R> {
 #[derive(Clone, Copy, Debug, PartialEq, Eq)]
 pub enum Ahead {
     More,
-    /// Nothing that is known of.
+    /// No input that is known of.
     Nothing,
 }
 
@@ -87,7 +87,7 @@ pub struct WriterSink<W: Drop> {
 }
 
 impl<W: Write + Drop> WriterSink<W> {
-    /// A sink that hands what it gets to the writer.
+    /// A sink that passes what it gets to the writer.
     pub fn new(writer: W) -> Self
         ensures writer { result.writer ≡ writer }
         ensures flushed { result.flushed ≡ true }

@@ -13,11 +13,11 @@ pub struct StreamFailed;
 
 /// What bytes are read from.
 pub trait Source {
-    /// What is seen of it: the bytes that it has left, its failures, the reads that are left.
+    /// What contracts see of it: the bytes that it has left, its failures, the reads that are left.
     ghost seen: { Self → Drawn };
 
-    /// Reads bytes into the buffer, and answers how many; 0 at the end. Each read lowers the bound on those that are
-    /// left by one; at 0 a read fails. A read that fails gives no byte, and raises the count of failures by one.
+    /// Reads bytes into the buffer, and returns how many; 0 at the end. Each read takes one of the reads that are left;
+    /// if none is left, a read fails. A read that fails gives no byte, and counts as one more failure.
     fn read(&mut self, buffer: &mut [u8]) -> Result<usize, StreamFailed>
         requires { (seen self.old).failures < 2 ^ 64 - 1 }
         ensures bound { IfOk result (λ n. n ≤ length buffer.new) }
@@ -31,18 +31,18 @@ pub trait Source {
     fn failures(&self) -> u64
         ensures { result ≡ (seen self.now).failures };
 
-    /// How often it can be read at most from now on.
+    /// How many reads are left.
     fn left(&self) -> u64
         ensures { result ≡ (seen self.now).reads_left };
 }
 
 /// What bytes are written to.
 pub trait Sink {
-    /// What is seen of it: the bytes that were written to it, its failures, whether all was handed on.
+    /// What contracts see of it: the bytes that were written to it, its failures, whether all was flushed.
     ghost seen: { Self → Sunk };
 
-    /// Takes some of the bytes, and answers how many. To take none is a failure, and each failure raises their count by
-    /// one.
+    /// Writes some of the bytes, and returns how many. Writing none is a failure. A write that fails counts as one more
+    /// failure.
     fn write(&mut self, bytes: &[u8]) -> Result<usize, StreamFailed>
         requires { (seen self.old).failures < 2 ^ 64 - 1 }
         ensures some { IfOk result (λ n. 0 < n) }
@@ -52,7 +52,7 @@ pub trait Sink {
         ensures ok { OnOk result ((seen self.new).failures ≡ (seen self.old).failures) }
         ensures err { OnErr result ((seen self.new).failures ≡ (seen self.old).failures + 1) };
 
-    /// Hands on what was written. After a failure some of it may be handed on.
+    /// Flushes what was written. After a failure, a part of it may have been flushed.
     fn flush(&mut self) -> Result<(), StreamFailed>
         requires { (seen self.old).failures < 2 ^ 64 - 1 }
         ensures bytes { Keeps (seen self.old).contents (seen self.new).contents }

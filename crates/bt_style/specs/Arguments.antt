@@ -1,5 +1,5 @@
--- The arguments of commands. A literal has no place in them but as a macro's text; elsewhere its quote makes a word
--- that is no name.
+-- The arguments of commands. A literal is allowed only as a macro's text; elsewhere it counts as a word that isn't a
+-- name.
 use Rattle.std.specs.Prelude.{ℕ, List, Result, Ok, codes}
 use Rattle.bt_style.specs.declared.fault.FaultKind.TheVariants.{UnclosedText, UnclosedBrace, StrayByte, MissingArgument}
 use Rattle.bt_style.specs.declared.fault.StyleFault.{StyleFault}
@@ -18,8 +18,8 @@ close_at (AtEnd line) = fault UnclosedBrace line
 close_at (Front Close line rest) = Ok rest
 close_at (Front _ line rest) = fault UnclosedBrace line
 
--- A word with its line. A literal stands for the word `"`, which is no name, and by which nothing is named: each use of
--- it is a fault at that token, on its line.
+-- A word with its line. A literal counts as the word `"`. That isn't a name, and nothing has it as its name, so
+-- wherever it is used, there is a fault at that token, on its line.
 abbrev pub word_at : Tokens → Result ((List ℕ × ℕ) × Tokens) StyleFault
 word_at (AtEnd line) = fault MissingArgument line
 word_at (Front Open line rest) = fault MissingArgument line
@@ -27,7 +27,7 @@ word_at (Front Close line rest) = fault MissingArgument line
 word_at (Front (Word word) line rest) = Ok ((word, line), rest)
 word_at (Front _ line rest) = Ok ((codes "\"", line), rest)
 
--- one word in braces, taken as the test says
+-- one word in braces, which the test turns into a value or refuses
 abbrev pub braced_word : {A : Type 0} → (List ℕ → ℕ → Result A StyleFault) → Tokens → Result (A × Tokens) StyleFault
 braced_word test tokens = do
   inside ← open_at tokens

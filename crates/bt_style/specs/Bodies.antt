@@ -8,12 +8,12 @@ use Rattle.bt_style.specs.Fault.{fault, ◌>>=◌}
 use Rattle.bt_style.specs.Token.{Open, Close, Word, Literal, Unclosed, Glued, Tokens, AtEnd, Front}
 use Rattle.bt_style.specs.Elements.{word_element}
 
--- Braces stand 100 deep at most, a body's own among them: so many bodies at most are around one.
+-- At most this number of braces may be around a body, so braces nest at most 100 deep, the body's own included.
 abbrev pub outer_limit : ℕ
 outer_limit = 99
 
--- Up to the brace that closes a body. Of each brace that stands open, the innermost first, the elements before it
--- are at hand; now are those after the last.
+-- Reads up to the brace that closes the body. `outer` has the elements before each brace that is open inside the body,
+-- the innermost first; `now` has those after the innermost.
 unfoldable pub body_at : Program → List (List Element) → List Element → Tokens → Result (Body × Tokens) StyleFault
 body_at p outer now (AtEnd line) = fault UnclosedBrace line
 body_at p outer now (Front Open line rest) =

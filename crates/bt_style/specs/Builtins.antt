@@ -1,4 +1,4 @@
--- The functions that need no definition: their table, with their names and their places in it.
+-- The built-in functions: their table, with their names and their places in it.
 use Rattle.std.specs.Prelude.{ℕ, List, [], ◌∷◌, bytes_eq, codes}
 use Rattle.std.specs.List.{position_or_len}
 use Rattle.bt_style.specs.declared.builtin.Builtin.{Builtin}
@@ -55,6 +55,6 @@ table =
     builtins.Substring ∷ builtins.Swap ∷ builtins.TextLength ∷ builtins.TextPrefix ∷ builtins.Top ∷
     builtins.Type ∷ builtins.Warning ∷ builtins.While ∷ builtins.Width ∷ builtins.Write ∷ []
 
--- the place of a function's name in the table, from 0
+-- a function's place in the table, from 0
 abbrev pub place_of : Builtin → ℕ
 place_of b = position_or_len (λ other. bytes_eq (name_of other) (name_of b)) table

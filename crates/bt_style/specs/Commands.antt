@@ -20,7 +20,7 @@ use Rattle.bt_style.specs.Declares.{new_name, target_of, runnable, braced_names}
 use Rattle.bt_style.specs.Bodies.{body_at}
 use Rattle.bt_style.specs.Verbs.{verb_named, out_of_order, stage_after}
 
--- what a word stands for, where it can be run
+-- what a word stands for, if that can be run
 abbrev pub run_target : Program → List ℕ → ℕ → Result Target StyleFault
 run_target p word line = target_of p word line >>= λ target. runnable target line
 
@@ -36,7 +36,7 @@ variables_at list action line p tokens = do
   declared ← braced_names list p tokens
   Ok (with_command action line declared.0, declared.1)
 
--- what a command with its arguments makes of a program
+-- a program after a command, and the tokens after its arguments
 unfoldable pub arguments_at : Verb → ℕ → Program → Tokens → Result (Program × Tokens) StyleFault
 arguments_at verbs.Entry line p tokens = do
   fields ← braced_names Fields p tokens
@@ -62,7 +62,8 @@ arguments_at verbs.Reverse line p tokens = run_at actions.Reverse line p tokens
 arguments_at verbs.Sort line p tokens = Ok (with_command actions.Sort line p, tokens)
 arguments_at verbs.Strings line p tokens = variables_at GlobalTexts actions.Strings line p tokens
 
--- a command that begins with this word: how far the commands have come then, the program, and what stands after
+-- The command that begins with this word: how far the commands have come after it, the program after it, and the tokens
+-- that follow.
 unfoldable pub command_at : Stage → Program → List ℕ → ℕ → Tokens → Result (Stage × Program × Tokens) StyleFault
 command_at stage p word line tokens = do
   verb ← elim (verb_named word) [ None ↦ fault UnknownCommand line | Some verb ↦ Ok verb ]

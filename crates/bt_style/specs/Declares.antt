@@ -14,7 +14,7 @@ use Rattle.bt_style.specs.Names.{target_named, is_taken}
 use Rattle.bt_style.specs.Draft.{with_name}
 use Rattle.bt_style.specs.Arguments.{open_at}
 
--- The name that a word declares: one that may be a name, and that isn't taken.
+-- the name that a word declares, in small letters; the word must be a name that isn't taken
 abbrev pub new_name : (List ℕ → Bool) → List ℕ → ℕ → Result (List ℕ) StyleFault
 new_name taken word line =
     if not (is_name word) then fault BadName line
@@ -25,7 +25,7 @@ new_name taken word line =
 abbrev pub target_of : Program → List ℕ → ℕ → Result Target StyleFault
 target_of p word line = elim (target_named p (folded word)) [ None ↦ fault UnknownName line | Some target ↦ Ok target ]
 
--- functions of the style and built-in ones can be run
+-- only the style's functions and built-in functions can be run
 abbrev pub runnable : Target → ℕ → Result Target StyleFault
 runnable (targets.Function n) line = Ok (targets.Function n)
 runnable (targets.Builtin b) line = Ok (targets.Builtin b)

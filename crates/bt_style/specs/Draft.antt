@@ -5,7 +5,7 @@ use Rattle.bt_style.specs.declared.names.Names.{Names}
 use Rattle.bt_style.specs.declared.names.Names.TheVariants.{Fields, EntryNumbers, EntryTexts, GlobalNumbers, GlobalTexts}
 use Rattle.bt_style.specs.Program.{Program}
 
--- a style with a name more
+-- a style with one more name
 abbrev pub with_name : Names → List ℕ → Program → Program
 with_name Fields name p = record p { fields = p.fields ++ name ∷ [] }
 with_name EntryNumbers name p = record p { entry_numbers = p.entry_numbers ++ name ∷ [] }
@@ -16,7 +16,7 @@ with_name GlobalTexts name p = record p { global_texts = p.global_texts ++ name 
 abbrev pub with_command : Action → ℕ → Program → Program
 with_command action line p = record p { commands = p.commands ++ (record { action = action; line = line }) ∷ [] }
 
--- what is there before the first command
+-- what is declared before the first command
 abbrev pub preset : Program
 preset = record {
   fields = codes "crossref" ∷ [];

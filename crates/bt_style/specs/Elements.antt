@@ -10,12 +10,12 @@ use Rattle.bt_style.specs.Program.{Program}
 use Rattle.bt_style.specs.Fault.{fault, ◌>>=◌}
 use Rattle.bt_style.specs.Declares.{target_of}
 
--- the number that digits spell, after digits that spelled n
+-- the number that these digits spell after others, which spell n
 abbrev pub decimal : ℕ → List ℕ → ℕ
 decimal n [] = n
 decimal n (d ∷ digits) = decimal (n * 10 + (d - 48)) digits
 
--- the size of a number: digits, and nothing behind them
+-- the size of a number, at most this one: digits, and nothing after them
 unfoldable pub size_at : ℕ → List ℕ → ℕ → Result ℕ StyleFault
 size_at greatest bytes line =
     let digits = take_while is_ascii_digit bytes in
@@ -24,13 +24,13 @@ size_at greatest bytes line =
     else if nat_lt greatest size then fault NumberTooLarge line
     else if length (drop (length digits) bytes) == 0 then Ok size else fault StrayByte line
 
--- after the number sign
+-- a number, after its `#`
 unfoldable pub number_at : List ℕ → ℕ → Result ℤ StyleFault
 number_at bytes line =
     if slice_index bytes 0 == hyphen then (size_at (2 ^ 31) (drop 1 bytes) line >>= λ n. Ok (neg_ℤ (pos n)))
     else size_at (2 ^ 31 - 1) bytes line >>= λ n. Ok (pos n)
 
--- after the apostrophe
+-- a quoted name, after its `'`
 unfoldable pub quoted_at : Program → List ℕ → ℕ → Result Element StyleFault
 quoted_at p bytes line =
     if length bytes == 0 then fault BadName line

@@ -1,4 +1,4 @@
--- Faults, and what a reader of the code returns beside what the definition gives.
+-- Faults, and how the result of the code's readers relates to what the definition gives.
 use Rattle.std.specs.Prelude.{◌≡◌, ℕ, List, codes, Result, Ok, Err}
 use Rattle.bt_style.specs.declared.fault.FaultKind.{FaultKind}
 use Rattle.bt_style.specs.declared.fault.FaultKind.TheVariants as kinds
@@ -6,7 +6,7 @@ use Rattle.bt_style.specs.declared.fault.StyleFault.{StyleFault}
 use Rattle.bt_style.specs.declared.fault.StyleRefusal.{StyleRefusal}
 use Rattle.bt_style.specs.declared.fault.StyleRefusal.TheVariants as refusals
 
--- the text of a kind
+-- the words for a kind of fault
 abbrev pub words_of : FaultKind → List ℕ
 words_of kinds.UnknownCommand = codes "This isn't a command"
 words_of kinds.CommandOrder = codes "This command stands in the wrong order"
@@ -27,18 +27,18 @@ words_of kinds.MissingArgument = codes "An argument is missing"
 abbrev pub fault : {A : Type 0} → FaultKind → ℕ → Result A StyleFault
 fault kind line = Err (record { kind = kind; line = line })
 
--- what is read next, unless there was a fault
+-- one reader after another, unless there was a fault
 infixl 10 ◌>>=◌
 abbrev pub ◌>>=◌ : {A B : Type 0} → Result A StyleFault → (A → Result B StyleFault) → Result B StyleFault
 (Ok x) >>= f = f x
 (Err e) >>= f = Err e
 
--- the same fault, unless memory ran out
+-- the code fails with the same fault as the definition, unless memory ran out
 abbrev pub Fails : {Y : Type 0} → StyleRefusal → Result Y StyleFault → Type 0
 Fails refusals.OutOfMemory read = Unit {0}
 Fails (refusals.Fault kind line) read = read ≡ fault kind line
 
--- the same value, seen by view, or the same fault, unless memory ran out
+-- the code gives the same value (as `view` shows it) or the same fault as the definition, unless memory ran out
 abbrev pub Gives : {X Y : Type 0} → (X → Y) → Result X StyleRefusal → Result Y StyleFault → Type 0
 Gives view (Ok x) read = read ≡ Ok (view x)
 Gives view (Err e) read = Fails e read

@@ -12,19 +12,19 @@ use Rattle.bt_style.specs.Program.{Program}
 unfoldable pub builtin_named : List ℕ → Option Builtin
 builtin_named name = find (λ b. bytes_eq (name_of b) name) table
 
--- the number of a name in a list
+-- the place of a name in a list, from 0
 abbrev pub place_in : List (List ℕ) → List ℕ → Option ℕ
 place_in [] name = None
 place_in (first ∷ names) name = if bytes_eq first name then Some 0 else option_map (λ n. suc n) (place_in names name)
 
--- the first that is there
+-- the first of some values that is there
 abbrev pub first_some : {A : Type 0} → List (Option A) → Option A
 first_some [] = None
 first_some (Some x ∷ rest) = Some x
 first_some (None ∷ rest) = first_some rest
 
--- What a name in small letters stands for. Fields, variables, functions and built-in functions share one space of
--- names.
+-- What a name in small letters stands for, list by list. Fields, variables, functions and built-in functions share one
+-- set of names.
 abbrev pub meanings : Program → List ℕ → List (Option Target)
 meanings p name =
     option_map targets.Builtin (builtin_named name) ∷
@@ -41,7 +41,7 @@ target_named p name = first_some (meanings p name)
 abbrev pub is_taken : Program → List ℕ → Bool
 is_taken p name = is_some (target_named p name)
 
--- Macros have a space of their own.
+-- Macros have a set of names of their own.
 unfoldable pub macro_named : Program → List ℕ → Option ℕ
 macro_named p name = place_in (map (λ m. m.name) p.macros) name
 

@@ -11,7 +11,7 @@ pub record Definition : Type 0 where
   pub name : List ℕ
   pub body : Body
 
--- a style, apart from how it lies in memory
+-- a style, without regard to how it is stored
 pub record Program : Type 0 where
   pub fields : List (List ℕ)
   pub entry_numbers : List (List ℕ)
@@ -28,7 +28,7 @@ definition_of f = record { name = f.name; body = ops_body f.body.items }
 abbrev pub definitions_of : List Function → List Definition
 definitions_of fs = map definition_of fs
 
--- what a style says
+-- the code's `Style` as definitions see it
 abbrev pub program_of : Style → Program
 program_of s = record {
   fields = s.fields;

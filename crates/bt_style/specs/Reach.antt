@@ -1,4 +1,4 @@
--- The names that a step may come to: from a name, through bodies, and from `call.type$` to the entry's function.
+-- The names that a step can reach: from a name, through bodies, and through `call.type$`.
 use Rattle.std.specs.Prelude.{ℕ, Bool, true, false, ◌||◌, if◌then◌else◌, List, [], ◌∷◌, ◌++◌, Option, Some, None, Contains, codes, map, slice_get}
 use Rattle.std.specs.List.{list_any}
 use Rattle.std.specs.Option.{option_map_or}
@@ -49,7 +49,7 @@ leads_to p type_function (targets.Builtin b) =
     if is_call_type b then maybe_function type_function ++ maybe_function (default_type p) else []
 leads_to p type_function _ = []
 
--- the least set that has the start and, with a name, each name that is reached from it at once
+-- the smallest set that has the start and, with each name, the names that are reached from it at once
 pub data Reaches (p : Program) (type_function : Option ℕ) (start : Target) : Target → Type 0 where
   Start : Reaches p type_function start start
   Next : {here next : Target} → Reaches p type_function start here → Contains (leads_to p type_function here) next →
@@ -63,7 +63,7 @@ target_eq = (target_comparison.ghosts).eq
 abbrev pub is_among : List Target → Target → Bool
 is_among found t = list_any (λ x. target_eq x t) found
 
--- whether the held line, the preamble and the type are among what kept names may read or write
+-- whether these names can read or write the output buffer, the preamble or the entry's type
 abbrev pub keeps_held : (Target → Bool) → Bool
 keeps_held keep = keep (targets.Builtin builtins.Write) || keep (targets.Builtin builtins.Newline)
 
@@ -73,11 +73,11 @@ keeps_preamble keep = keep (targets.Builtin builtins.Preamble)
 abbrev pub keeps_kind : (Target → Bool) → Bool
 keeps_kind keep = keep (targets.Builtin builtins.Type) || keep (targets.Builtin builtins.CallType)
 
--- a target after those that are found, unless it is among them
+-- the targets found so far and one more, unless it is among them
 abbrev pub noted : List Target → Target → List Target
 noted found t = if is_among found t then found else found ++ t ∷ []
 
--- the same of some targets in turn
+-- the same for several targets in turn
 abbrev pub noted_all : List Target → List Target → List Target
 noted_all found [] = found
 noted_all found (t ∷ ts) = noted_all (noted found t) ts
@@ -87,7 +87,7 @@ abbrev pub all_body_names : List Definition → List Target
 all_body_names [] = []
 all_body_names (f ∷ fs) = body_names f.body ++ all_body_names fs
 
--- the names that may be reached at all
+-- all names that can be reached
 abbrev pub reachable : Program → Option ℕ → Target → List Target
 reachable p type_function start =
     start ∷ (maybe_function type_function ++ maybe_function (default_type p)) ++ all_body_names p.functions

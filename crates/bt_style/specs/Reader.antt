@@ -10,7 +10,7 @@ use Rattle.bt_style.specs.Token.{Open, Close, Word, Tokens, AtEnd, Front, tokens
 use Rattle.bt_style.specs.Draft.{preset}
 use Rattle.bt_style.specs.Commands.{command_at}
 
--- the word with which a command begins, its line and what stands after, or none at the end
+-- the word with which a command begins, its line and the tokens after it; none at the end
 abbrev pub command_word : Tokens → Result (Option (List ℕ × ℕ × Tokens)) StyleFault
 command_word (AtEnd line) = Ok None
 command_word (Front Open line rest) = fault StrayByte line
@@ -18,7 +18,7 @@ command_word (Front Close line rest) = fault StrayByte line
 command_word (Front (Word word) line rest) = Ok (Some (word, line, rest))
 command_word (Front _ line rest) = fault UnknownCommand line
 
--- at most this number of commands, from a stage on
+-- a program after the commands that follow, at most this number, from a stage on
 unfoldable pub commands_at : ℕ → Stage → Program → Tokens → Result Program StyleFault
 commands_at zero stage p tokens = Ok p
 commands_at (suc most) stage p tokens = command_word tokens >>= λ found. elim found [
@@ -26,7 +26,7 @@ commands_at (suc most) stage p tokens = command_word tokens >>= λ found. elim f
   | Some word ↦ command_at stage p word.0 word.1 word.2 >>= λ next. commands_at most next.0 next.1 next.2
 ]
 
--- Each command has a token at least, so there are no more than tokens; the end is met after the last.
+-- The style that tokens spell. Each command has at least one token, so the bound is never reached.
 unfoldable pub reading : Tokens → Result Program StyleFault
 reading tokens = commands_at (suc (count tokens)) BeforeEntry preset tokens
 

@@ -9,11 +9,11 @@ quote = 34
 abbrev pub percent_sign : ℕ
 percent_sign = 37
 
--- white space, a percent sign, a brace
+-- whether a byte ends a word: white space, a percent sign or a brace
 abbrev pub ends_word : ℕ → Bool
 ends_word b = is_white b || b == percent_sign || b == left_brace || b == right_brace
 
--- a quote, or the line's end
+-- whether a byte ends a literal: a quote, or the line's end
 abbrev pub ends_literal : ℕ → Bool
 ends_literal b = b == quote || is_line_feed b
 
@@ -25,7 +25,7 @@ pub data Token : Type 0 where
   Literal : (bytes : List ℕ) → Token
   -- a quote with no other on its line
   Unclosed : Token
-  -- two quotes of one line, and after them a byte that doesn't end a word
+  -- two quotes of one line, and right after them a byte that doesn't end a word
   Glued : Token
 
 -- tokens with their lines, up to the text's end with its line
@@ -33,12 +33,12 @@ pub data Tokens : Type 0 where
   AtEnd : (line : ℕ) → Tokens
   Front : (token : Token) → (line : ℕ) → (rest : Tokens) → Tokens
 
--- how many bytes stand together, as a token or as none
+-- a piece of a text: its number of bytes, and its token; white space and comments are none
 pub record Piece : Type 0 where
   pub token : Option Token
   pub size : ℕ
 
--- what stands after a literal may stand there
+-- whether these bytes may follow a literal
 abbrev pub may_follow : List ℕ → Bool
 may_follow [] = true
 may_follow (b ∷ _) = ends_word b
@@ -58,7 +58,7 @@ literal_piece bytes =
           else unclosed
     ]
 
--- the piece that begins with a byte, by what stands after the byte
+-- the piece that begins with this byte, which these bytes follow
 unfoldable pub piece_at : ℕ → List ℕ → Piece
 piece_at b bytes =
     let comment = before_first is_line_feed bytes in
@@ -73,8 +73,8 @@ piece_at b bytes =
 abbrev pub line_after : ℕ → ℕ → ℕ
 line_after b line = if is_line_feed b then line + 1 else line
 
--- The tokens of the rest of a text from a line on. The first so many bytes belong to a piece that began before: they
--- are passed one by one, so that each byte is one step of the recursion.
+-- The tokens of the rest of a text, which begins on this line. Its first `covered` bytes belong to a piece that began
+-- before. They are skipped one by one, so that each step of the recursion takes one byte.
 unfoldable pub tokens_after : ℕ → ℕ → List ℕ → Tokens
 tokens_after covered line [] = AtEnd line
 tokens_after (suc covered) line (b ∷ bytes) = tokens_after covered (line_after b line) bytes

@@ -1,4 +1,4 @@
--- A body as a tree: what a function's elements are, apart from how a vector holds them.
+-- A function's body as a tree, without regard to how its elements are stored.
 use Rattle.std.specs.Prelude.{ℕ, ℤ, List, [], ◌∷◌, map}
 use Rattle.bt_style.specs.declared.style.Target.{Target}
 use Rattle.bt_style.specs.declared.style.Op.{Op}

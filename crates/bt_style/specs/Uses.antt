@@ -6,7 +6,7 @@ use Rattle.bt_style.specs.declared.style.Action.{Action}
 use Rattle.bt_style.specs.declared.style.Action.TheVariants as actions
 use Rattle.bt_style.specs.Program.{Program}
 
--- what a name stands for is declared, where this number of functions is defined
+-- what a name stands for is declared, when this number of functions is defined
 abbrev pub IsDeclared : Program → ℕ → Target → Type 0
 IsDeclared p functions (targets.Builtin b) = Unit {0}
 IsDeclared p functions (targets.Field n) = n < length p.fields

@@ -1,4 +1,4 @@
--- The words of commands, and the order in which commands may stand.
+-- The words of commands, and the order in which commands may come.
 use Rattle.std.specs.Prelude.{ℕ, List, [], ◌∷◌, Option, Some, None, codes}
 use Rattle.std.specs.List.{find}
 use Rattle.bt_text.specs.CaseFolding.{is_same_folded}
@@ -28,11 +28,11 @@ all_verbs =
     verbs.Entry ∷ verbs.Execute ∷ verbs.Function ∷ verbs.Integers ∷ verbs.Iterate ∷
     verbs.Macro ∷ verbs.Read ∷ verbs.Reverse ∷ verbs.Sort ∷ verbs.Strings ∷ []
 
--- the command of a word in either case
+-- the command of a word, in small letters or capitals
 unfoldable pub verb_named : List ℕ → Option Verb
 verb_named word = find (λ verb. is_same_folded word (word_of verb)) all_verbs
 
--- What stands in the way of a command at a stage. EXECUTE, ITERATE, REVERSE and SORT, the last two lines, need entries.
+-- Why a command may not come at this stage, if it may not. The last two rows: EXECUTE, ITERATE, REVERSE and SORT.
 abbrev pub out_of_order : Verb → Stage → Option FaultKind
 out_of_order verbs.Entry BeforeEntry = None
 out_of_order verbs.Entry _ = Some SecondEntry

@@ -22,7 +22,7 @@ use bt_text::Bytes;
 use std::alloc::{AllocError, Global};
 use std::mem;
 
-/// How deep the braces of a body may stand, its own among them.
+/// How deep the braces of a body may nest, its own included.
 pub const BRACE_DEPTH: usize = 100;
 
 fn push(ops: &mut Vec<Op>, op: Op) -> Result<(), AllocError>

@@ -1,34 +1,34 @@
-//! The functions that need no definition, in one table: their names, and their places in it.
+//! The built-in functions in one table: their names, and their places in it.
 
 ghost use Rattle.std.specs.Prelude.{◌≡◌, ◌<◌};
 ghost use Rattle.bt_style.specs.Builtins.{place_of, name_of};
 
-/// How many functions need no definition.
+/// How many built-in functions there are.
 pub const BUILTIN_COUNT: usize = 37;
 
-/// A function that needs no definition: the built-in functions of *Designing BibTeX Styles*, in the order of their
-/// table. Arguments are named from the lowest on the literal stack to the top.
+/// A built-in function of *Designing BibTeX Styles*, in the order of the table. Arguments are named from the lowest on
+/// the literal stack to the top.
 #[derive(Clone, Copy, Debug, PartialEq, Eq, Hash)]
 pub enum Builtin {
-    /// `>`. Two numbers: 1 where the lower one on the stack is greater, else 0.
+    /// `>`. Two numbers: 1 if the lower one on the stack is greater, else 0.
     Greater,
-    /// `<`. Two numbers: 1 where the lower one on the stack is less, else 0.
+    /// `<`. Two numbers: 1 if the lower one on the stack is less, else 0.
     Less,
-    /// `=`. Two numbers or two texts: 1 where they are equal, else 0.
+    /// `=`. Two numbers or two texts: 1 if they are equal, else 0.
     Equals,
     /// `+`. Two numbers: their sum.
     Plus,
-    /// `-`. Two numbers: the lower one on the stack without the upper one.
+    /// `-`. Two numbers: the lower one on the stack minus the upper one.
     Minus,
     /// `*`. Two texts: the lower one followed by the upper one.
     Join,
     /// `:=`. A value and a quoted variable: gives the variable the value.
     Assign,
-    /// `add.period$`. A text: the text with a period at its end, unless a sentence ends there.
+    /// `add.period$`. A text: the text with a full stop at its end, unless a sentence ends there.
     AddPeriod,
     /// `call.type$`. Runs the function of the entry's type, else `default.type`.
     CallType,
-    /// `change.case$`. A text and `t`, `l` or `u`: the text as a title, in small letters or in large ones.
+    /// `change.case$`. A text and `t`, `l` or `u`: the text as a title, in small letters or in capitals.
     ChangeCase,
     /// `chr.to.int$`. A text of one byte: the byte's number.
     ChrToInt,
@@ -36,19 +36,19 @@ pub enum Builtin {
     Cite,
     /// `duplicate$`. A value: the value twice.
     Duplicate,
-    /// `empty$`. A text or a missing field: 1 where it is missing or white, else 0.
+    /// `empty$`. A text or a missing field: 1 if it is missing, empty or only white space, else 0.
     Empty,
-    /// `format.name$`. A list of names, a number and a pattern: the name of that number by the pattern.
+    /// `format.name$`. A list of names, a number and a pattern: the name of that number, formatted by the pattern.
     FormatName,
-    /// `if$`. A number and two functions: runs the lower one where the number is above 0, else the upper one.
+    /// `if$`. A number and two functions: runs the lower one if the number is above 0, else the upper one.
     If,
     /// `int.to.chr$`. A number from 0 to 127: the text of that byte.
     IntToChr,
-    /// `int.to.str$`. A number: its decimal digits.
+    /// `int.to.str$`. A number: its decimal digits, after `-` if it is negative.
     IntToStr,
-    /// `missing$`. A text or a missing field: 1 where it is missing, else 0.
+    /// `missing$`. A text or a missing field: 1 if it is missing, else 0.
     Missing,
-    /// `newline$`. Writes the held line.
+    /// `newline$`. Writes the output buffer as a line.
     Newline,
     /// `num.names$`. A list of names: how many there are.
     NumNames,
@@ -62,7 +62,7 @@ pub enum Builtin {
     Quote,
     /// `skip$`. Nothing.
     Skip,
-    /// `stack$`. All values: logs each, from the top.
+    /// `stack$`. All values: logs and removes each, from the top.
     Stack,
     /// `substring$`. A text, a start and a length: that part of the text.
     Substring,
@@ -74,15 +74,15 @@ pub enum Builtin {
     TextPrefix,
     /// `top$`. A value: logs it.
     Top,
-    /// `type$`. The entry's type, or nothing where it has no function.
+    /// `type$`. The entry's type, or the empty text if the style has no function of that name.
     Type,
     /// `warning$`. A text: logs it as a warning.
     Warning,
-    /// `while$`. Two functions: runs the lower one, and where it leaves a number above 0, the upper one, and so on.
+    /// `while$`. Two functions: runs the lower one and, if it leaves a number above 0, the upper one, and so on.
     While,
     /// `width$`. A text: its width.
     Width,
-    /// `write$`. A text: puts it after the held line.
+    /// `write$`. A text: appends it to the output buffer.
     Write,
 }
 

@@ -54,7 +54,7 @@ fn size(bytes: &[u8], greatest: u32, line: usize) -> Result<u32, StyleRefusal>
     }
 }
 
-/// The number after the number sign.
+/// The number after a `#`.
 #[tactic(auto, unfolding(crate::specs::Elements::number_at))]
 fn number(bytes: &[u8], line: usize) -> Result<i32, StyleRefusal>
     ensures { Gives (λ n. n) result (number_at bytes.now line) }
@@ -66,7 +66,7 @@ fn number(bytes: &[u8], line: usize) -> Result<i32, StyleRefusal>
     }
 }
 
-/// The quoted name after the apostrophe.
+/// The quoted name after a `'`.
 #[tactic(auto, unfolding(crate::specs::Elements::quoted_at))]
 fn quoted(alloc: Global, draft: &Draft, word: &[u8], line: usize) -> Result<Op, StyleRefusal>
     ensures { Gives element_of result (quoted_at (program_of draft.now) word.now line) }

@@ -10,32 +10,32 @@ use thiserror::Error;
 /// What is wrong with a style's text.
 #[derive(Clone, Copy, PartialEq, Eq, Debug)]
 pub enum FaultKind {
-    /// A word stands where a command must stand, and is no command's.
+    /// A word where a command must be isn't the word of a command.
     UnknownCommand,
-    /// MACRO stands after READ, or EXECUTE, ITERATE, REVERSE or SORT before it.
+    /// MACRO comes after READ; or EXECUTE, ITERATE, REVERSE or SORT comes before it.
     CommandOrder,
     /// A second ENTRY.
     SecondEntry,
     /// A second READ.
     SecondRead,
-    /// READ stands before ENTRY.
+    /// READ comes before ENTRY.
     NoEntry,
     /// A name is used that isn't defined before.
     UnknownName,
-    /// A name or a macro is declared that exists.
+    /// A name or a macro is declared that exists already.
     NameTaken,
-    /// A number doesn't fit 32 signed bits.
+    /// A number doesn't fit into 32 bits with sign.
     NumberTooLarge,
     /// A text has no second quote on its line.
     UnclosedText,
-    /// The end or something else stands where a right brace must stand, or braces stand over 100 deep.
+    /// The end or something else comes where a right brace must be, or braces nest more than 100 deep.
     UnclosedBrace,
-    /// A word is declared that is no name, or nothing is quoted.
+    /// A declared word isn't a name, or an apostrophe quotes nothing.
     BadName,
-    /// A number has no digits or a wrong byte after it, a text has a wrong byte after it, or a brace stands where a
-    /// command must stand.
+    /// A number has no digits or a wrong byte after it, a text has a wrong byte after it, or a brace comes where a
+    /// command must be.
     StrayByte,
-    /// A field or variable is to be run.
+    /// EXECUTE, ITERATE or REVERSE names a field or a variable.
     NotAFunction,
     /// An argument, the name in it or a macro's text is missing.
     MissingArgument,

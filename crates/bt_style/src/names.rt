@@ -1,4 +1,4 @@
-//! The lists that a command fills, and a hashed table of the functions that need no definition.
+//! The lists that a command fills, and a hashed table of the built-in functions.
 
 ghost use Rattle.std.specs.Prelude.{◌≡◌, map, ℕ, List, Some, IfOk, OnOk, bytes_eq, if◌then◌else◌};
 ghost use Rattle.std.specs.Option.{option_map};
@@ -52,7 +52,7 @@ fn put_builtins(alloc: Global, builtins: &[Builtin]) -> Result<ByName<Target>, A
     Ok(targets)
 }
 
-/// The functions that need no definition, by their names.
+/// The built-in functions by their names.
 pub fn builtins(alloc: Global) -> Result<ByName<Target>, AllocError>
     ensures { IfOk result (λ targets. Holds targets (λ name. option_map Target.Builtin (builtin_named name))) }
 {

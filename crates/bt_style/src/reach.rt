@@ -1,4 +1,4 @@
-//! The names that a step may come to.
+//! The names that a step can reach.
 //!
 //! The search keeps each name once, in `found`, in the order in which it met them; those from `place` on are still to be
 //! followed. `seen` has the same names as a hashed set. The parts of a body that are still to be visited wait in a list,
@@ -21,7 +21,7 @@ use bt_text::Sequence;
 use std::alloc::{AllocError, Global};
 use std::collections::HashSet;
 
-/// The names that a step may come to from a name.
+/// The names that a step can reach from a name.
 #[derive(Debug, Drop)]
 pub struct Reach {
     /// Each of them once.
@@ -36,11 +36,11 @@ pub struct Reach {
     pub global_numbers: Sequence<usize>,
     /// Those of the global string variables.
     pub global_texts: Sequence<usize>,
-    /// Whether the held line is among what the step may read or write.
+    /// Whether the step can read or write the output buffer.
     pub held: bool,
-    /// Whether the preamble is among what the step may read.
+    /// Whether the step can read the preamble.
     pub preamble: bool,
-    /// Whether the entry's type is among what the step may read.
+    /// Whether the step can read the entry's type.
     pub kind: bool,
     ghost fields_among: { fields ≡ filter_map as_field targets },
     ghost entry_numbers_among: { entry_numbers ≡ filter_map as_entry_number targets },
@@ -52,7 +52,7 @@ pub struct Reach {
     ghost kind_named: { kind ≡ keeps_kind (is_among targets) },
 }
 
-/// Puts a target after those that are found, unless it is among them.
+/// Appends a target to those that are found, unless it is among them.
 fn note(
     found: &mut Sequence<Target>,
     seen: &mut HashSet<Target>,
@@ -88,7 +88,7 @@ fn take_up<'a>(waiting: &mut Vec<&'a [Op]>) -> Option<&'a [Op]>
     waiting.pop()
 }
 
-/// Notes the name in an element, and leaves what stands in its braces for later.
+/// Notes the name in an element, and leaves what is in its braces for later.
 fn note_element<'a>(
     found: &mut Sequence<Target>,
     seen: &mut HashSet<Target>,
@@ -109,7 +109,7 @@ fn note_element<'a>(
     }
 }
 
-/// Goes over the first element of a part of a body, and leaves what stands in it and after it for later.
+/// Goes over the first element of a part of a body, and leaves what is in it and after it for later.
 fn go_over<'a>(
     found: &mut Sequence<Target>,
     seen: &mut HashSet<Target>,
@@ -148,7 +148,7 @@ fn note_body(
     Ok(())
 }
 
-/// The body of the function of a number, none where there is no such function.
+/// The body of the function of a number; none if there is no such function.
 fn function_body(style: &Style, place: usize) -> &[Op]
     ensures { body_names (ops_body result.now) ≡ function_body_names (program_of style.now) place }
 {
@@ -290,8 +290,8 @@ fn listed(
 
 impl Style {
     /// What is reached from a name: the name itself, each name that is called or quoted in the bodies of its functions,
-    /// inner braces too, and, where `call.type$` is reached, the function of the entry's type (`type_function`, if it
-    /// has one) and `default.type`. A number without a function reaches nothing more.
+    /// inner braces too, and, if `call.type$` is reached, the function of the entry's type (`type_function`, if it has
+    /// one) and `default.type`. A number without a function reaches nothing more.
     pub fn reach(
         &self,
         alloc: Global,

@@ -20,13 +20,13 @@ pub enum Target {
 /// An element of a function's body.
 #[derive(Drop)]
 pub enum Op {
-    /// A number, which is put on the literal stack.
+    /// A number, which is pushed.
     Number(i32),
-    /// A text, which is put on the literal stack.
+    /// A text, which is pushed.
     Text(Bytes),
-    /// A quoted name, which is put on the literal stack.
+    /// A quoted name, which is pushed.
     Quote(Target),
-    /// A function in braces, which is put on the literal stack.
+    /// A function in braces, which is pushed.
     Block(Vec<Op>),
     /// A call of a name.
     Call(Target),
@@ -93,11 +93,11 @@ pub struct Style {
     pub global_texts: Sequence<Bytes>,
     pub macros: Sequence<Macro>,
     pub functions: Vec<Function>,
-    /// All commands in their order, also those that only declare.
+    /// All commands in order, those that only declare something included.
     pub commands: Sequence<Command>,
 }
 
-/// No two fields of a style that a text spells match, without regard to case.
+/// A law: no two fields of a style that a text spells have the same name, ignoring case.
 pub fn fields_are_apart()
     ensures { FieldsAreApart }
 {}

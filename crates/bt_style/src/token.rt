@@ -1,4 +1,4 @@
-//! The tokens of a style's text. It falls into pieces: each is a token, or white space or a comment, which are none.
+//! The tokens of a style's text, which is cut into pieces: tokens, and white space and comments, which are none.
 
 ghost use Rattle.std.specs.Prelude.{◌≡◌, ◌+◌, ◌<◌, length};
 ghost use Rattle.std.specs.List.{before_first};
@@ -27,7 +27,7 @@ pub enum TokenKind<'a> {
     Literal(&'a [u8]),
     /// A quote with no other on its line.
     Unclosed,
-    /// Two quotes of one line, and after them a byte that doesn't end a word.
+    /// Two quotes of one line, and right after them a byte that doesn't end a word.
     Glued,
 }
 
@@ -57,7 +57,7 @@ fn literal_length(bytes: &[u8]) -> usize
     memchr2(b'"', b'\n', bytes).unwrap_or(bytes.len())
 }
 
-/// Whether these bytes may stand after a literal.
+/// Whether these bytes may follow a literal.
 fn may_follow(bytes: &[u8]) -> bool
     ensures { result ≡ may_follow bytes.now }
 {

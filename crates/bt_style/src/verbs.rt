@@ -1,4 +1,4 @@
-//! The words of commands, and the order in which commands may stand.
+//! The words of commands, and the order in which commands may come.
 
 ghost use Rattle.std.specs.Prelude.{◌≡◌};
 ghost use Rattle.std.specs.List.{find};
@@ -92,7 +92,7 @@ pub fn read_verb(word: &[u8], line: usize) -> Result<Verb, StyleRefusal>
     }
 }
 
-/// What stands in the way of a command.
+/// Why a command may not come here, if it may not.
 fn out_of_order(verb: Verb, stage: Stage) -> Option<FaultKind>
     ensures { result ≡ out_of_order verb stage }
 {
@@ -109,7 +109,7 @@ fn out_of_order(verb: Verb, stage: Stage) -> Option<FaultKind>
     }
 }
 
-/// Whether a command may stand at a stage.
+/// Whether a command may come at a stage.
 pub fn in_order(verb: Verb, stage: Stage, line: usize) -> Result<(), StyleRefusal>
     ensures { Gives (λ _. tt) result (in_order (out_of_order verb stage) line) }
 {
@@ -119,7 +119,7 @@ pub fn in_order(verb: Verb, stage: Stage, line: usize) -> Result<(), StyleRefusa
     }
 }
 
-/// How far the commands have come with one more.
+/// How far the commands have come after one more.
 pub fn stage_after(verb: Verb, stage: Stage) -> Stage
     ensures { result ≡ stage_after verb stage }
 {

@@ -47,7 +47,7 @@ fn index_of(held: &[Checked], name: &[u8]) -> Option<usize>
     held.iter().position(|one| one.name.as_slice() == name)
 }
 
-/// Holds a check in the place of the one of its document, or last.
+/// Holds a check, which replaces the one of its document, or comes last.
 fn hold(held: &mut Sequence<Checked>, checked: Checked) -> Result<(), AllocError> {
     match index_of(held.as_slice(), checked.name.as_slice()) {
         Some(place) => {
@@ -61,7 +61,7 @@ fn hold(held: &mut Sequence<Checked>, checked: Checked) -> Result<(), AllocError
     }
 }
 
-/// Checks a text of a document, unless its findings are held already. The one error is out of memory.
+/// Checks a text of a document, unless its findings are held already. The only error is out of memory.
 pub fn check_again(
     alloc: Global,
     held: &mut Sequence<Checked>,

@@ -30,6 +30,7 @@ pub struct CallPlace {
     pub words: Bytes,
 }
 
+/// What the check found: the part of the text where it is, its code and words, and the calls that lead there.
 #[derive(Drop)]
 pub struct Finding {
     pub start: usize,
@@ -225,7 +226,7 @@ fn findings_in(alloc: Global, text: &[u8], style: &Style) -> Result<Sequence<Fin
 }
 
 /// The findings of a text: the faults, then the lint, and last a hint if the check gave up. A text that can't be read has
-/// none: its fault is a message of the run. The one error is out of memory.
+/// none: its fault is a message of the run. The only error is out of memory.
 pub fn findings_of(alloc: Global, text: &[u8]) -> Result<Sequence<Finding>, AllocError> {
     match read_style(alloc, text) {
         Ok(style) => findings_in(alloc, text, &style),

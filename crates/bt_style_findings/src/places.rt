@@ -1,9 +1,9 @@
-//! Where in a text the word of a finding stands: the check knows only its line.
+//! Where in a text the word of a finding is: the check knows only its line.
 
 use bt_style_text::{Mark, Role, part};
 use bt_text::eq_ignore_ascii_case;
 
-/// A part of a text, by the offsets of its begin and its end.
+/// A part of a text, by the offsets of its beginning and its end.
 #[derive(Clone, Copy)]
 pub struct Place {
     pub start: usize,
@@ -22,7 +22,7 @@ pub struct Words<'a> {
 pub enum Wanted<'a> {
     /// Those that are this name.
     Name(&'a [u8]),
-    /// Those that declare a name which stands in these words, between blanks.
+    /// Those that declare one of these names, which blanks separate.
     DeclaredIn(&'a [u8]),
 }
 

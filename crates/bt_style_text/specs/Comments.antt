@@ -25,7 +25,7 @@ longer text None start end = record { start = start; end = end }
 longer text (Some run) start end =
     if follows text run.end start then record { start = run.start; end = end } else record { start = start; end = end }
 
--- the comments that end behind a word
+-- the comments that end after a word
 abbrev pub run_after : List ℕ → Option Run → Mark → Option Run
 run_after text run mark = if is_comment mark.role then Some (longer text run mark.start mark.end) else None
 

@@ -50,7 +50,7 @@ context_from context text place (word ∷ words) =
     context_from (context_after context word.kind (part word.start word.end text)) text place words
     else context
 
--- where the word at a place stands: behind the words before it
+-- where the word at a place stands: after the words before it
 abbrev pub context_at : List ℕ → ℕ → List Word → Context
 context_at text place words = context_from top text place words
 
@@ -88,7 +88,7 @@ abbrev pub start_or : ℕ → Option Mark → ℕ
 start_or place None = place
 start_or place (Some mark) = mark.start
 
--- where the word begins that is being written at a place, behind its quote; the place itself if there is none
+-- where the word begins that is being written at a place, after its quote; the place itself if there is none
 abbrev pub written_from : ℕ → List Mark → ℕ
 written_from place marks = start_or place (find (is_written place) marks)
 

@@ -14,7 +14,7 @@ abbrev pub is_quoted : Role → Bool
 is_quoted roles.Quoted = true
 is_quoted _ = false
 
--- where a word's name begins: behind its quote, if it has one
+-- where a word's name begins: after its quote, if it has one
 abbrev pub name_start : Role → Word → ℕ
 name_start role word = if is_quoted role && nat_lt word.start word.end then word.start + 1 else word.start
 

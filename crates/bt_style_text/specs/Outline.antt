@@ -11,7 +11,7 @@ abbrev pub start_by : Role → ℕ → ℕ → ℕ
 start_by (roles.Command command) here start = here
 start_by _ here start = start
 
--- where the last command begins behind a mark
+-- where the last command begins after a mark
 abbrev pub start_after : ℕ → Mark → ℕ
 start_after start mark = start_by mark.role mark.start start
 

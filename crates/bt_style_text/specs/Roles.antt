@@ -70,13 +70,13 @@ next_group groups.Second = groups.Third
 next_group groups.Third = groups.Later
 next_group groups.Later = groups.Later
 
--- behind a left brace
+-- after a left brace
 abbrev pub opened : Context → Context
 opened context =
     if context.depth == 0 then record context { group = next_group context.group; depth = 1 }
     else record context { depth = context.depth + 1 }
 
--- behind a right brace
+-- after a right brace
 abbrev pub closed : Context → Context
 closed context = record context { depth = context.depth - 1 }
 

@@ -28,11 +28,11 @@ function_by (roles.Command command) function mark = None
 function_by (roles.Declared kind) function mark = function_by_kind kind function mark
 function_by _ function mark = function
 
--- the function in which the words behind a mark stand, if they stand in one
+-- the function in which the words after a mark are, if they are in one
 abbrev pub function_after : Option Mark → Mark → Option Mark
 function_after function mark = function_by mark.role function mark
 
--- the function that is still to be named as a user behind a mark: none if it has been named
+-- the function that is still to be named as a user after a mark: none if it has been named
 abbrev pub next_function : Bool → Option Mark → Mark → Option Mark
 next_function is_use function mark = if is_use then None else function_after function mark
 

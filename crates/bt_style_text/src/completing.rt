@@ -55,7 +55,7 @@ fn is_covered(words: &[Word], place: usize) -> bool
     words.iter().any(|word| covers(place, *word))
 }
 
-/// Where the word at a place stands: behind the words before it.
+/// Where the word at a place stands: after the words before it.
 fn context_at(text: &[u8], words: &[Word], place: usize) -> Context
     ensures { result ≡ context_at text.now place words.now }
 {
@@ -116,7 +116,7 @@ fn written_mark(marks: &[Mark], place: usize) -> Option<Mark>
     marks.iter().copied().find(|mark| is_written(place, *mark))
 }
 
-/// Where the word begins that is being written at a place, behind its quote; the place itself if there is none.
+/// Where the word begins that is being written at a place, after its quote; the place itself if there is none.
 pub fn written_from(marks: &[Mark], place: usize) -> usize
     ensures { result ≡ written_from place marks.now }
 {

@@ -10,7 +10,7 @@ use crate::roles::{Context, Role, TOP, context_after, role_of};
 use crate::words::{Word, words_of};
 use std::alloc::{AllocError, Global};
 
-/// A word with its role. A quoted name goes from behind its quote.
+/// A word with its role. A quoted name begins after its quote.
 #[derive(Clone, Copy)]
 pub struct Mark {
     pub role: Role,
@@ -27,7 +27,7 @@ fn is_quoted(role: Role) -> bool
     }
 }
 
-/// Where a word's name begins: behind its quote, if it has one.
+/// Where a word's name begins: after its quote, if it has one.
 fn name_start(role: Role, word: Word) -> usize
     ensures { result ≡ name_start role word }
 {

@@ -17,7 +17,7 @@ pub struct Symbol {
     pub end: usize,
 }
 
-/// Where the last command begins behind a mark.
+/// Where the last command begins after a mark.
 pub fn start_after(start: usize, mark: Mark) -> usize
     ensures { result ≡ start_after start mark }
 {

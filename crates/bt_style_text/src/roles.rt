@@ -26,7 +26,7 @@ pub enum Role {
     Declared(Kind),
     /// A name that is run or read.
     Called,
-    /// A name behind a single quote.
+    /// A name after a single quote.
     Quoted,
     Number,
     Literal,

@@ -26,7 +26,7 @@ pub fn is_use_of(text: &[u8], name: &[u8], mark: Mark) -> bool
     uses(mark.role) && is_name_of(text, Space::Names, name, mark)
 }
 
-/// The function in which the words behind a mark stand, if they stand in one.
+/// The function in which the words after a mark are, if they are in one.
 fn function_after(function: Option<Mark>, mark: Mark) -> Option<Mark>
     ensures { result ≡ function_after function mark }
 {
@@ -37,7 +37,7 @@ fn function_after(function: Option<Mark>, mark: Mark) -> Option<Mark>
     }
 }
 
-/// The function that is still to be named as a user behind a mark: none if it has been named.
+/// The function that is still to be named as a user after a mark: none if it has been named.
 fn next_function(is_use: bool, function: Option<Mark>, mark: Mark) -> Option<Mark>
     ensures { result ≡ next_function is_use function mark }
 {

@@ -37,7 +37,7 @@ Turn {D} answers notes lost false input rest d said said' e =
     (frame : List ℕ) × (mail : Mail) × (messages : List Data) × IsFrame frame mail × (input ≡ frame ++ rest) ×
     Handled answers notes lost mail d messages e × (said' ≡ said ++ sent messages)
 
--- what a call does of which, where source and sink show their bytes, such a turn is true
+-- a call took such a turn, if source and sink show their bytes
 abbrev pub TakesTurn : {D E : Type 0} → (Bool → List ℕ → List ℕ → D → List ℕ → List ℕ → D → Type 0) →
     Drawn → Drawn → Sunk → Sunk → D → D → Result Bool E → Type 0
 TakesTurn turn source source' sink sink' d e result =
@@ -45,7 +45,7 @@ TakesTurn turn source source' sink sink' d e result =
     IfOk result (λ over. (rest said' : List ℕ) × (source'.rest ≡ Some rest) × (sink'.contents ≡ Some said') ×
     turn over input rest d said said' e)
 
--- what a call does of which such a talk is true; its bytes are written after what the sink held
+-- a call led such a talk, if source and sink show their bytes; what it said follows what the sink held before
 abbrev pub Holds : {D E : Type 0} → (Bool → List ℕ → List ℕ → D → List ℕ → D → Type 0) →
     Drawn → Drawn → Sunk → Sunk → D → D → Result Bool E → Type 0
 Holds talk source source' sink sink' d e result =

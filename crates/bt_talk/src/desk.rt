@@ -13,8 +13,8 @@ pub struct Reply {
     pub notes: Vec<Value>,
 }
 
-/// What carries out messages. A request that runs out of memory has changed nothing. A notification can't be answered, so
-/// what happens without memory is the desk's to say and to remember.
+/// What carries out messages. A request that runs out of memory has changed nothing. A notification can't be answered,
+/// so if memory runs out, the desk must remember it and say so itself.
 pub trait Desk {
     ghost use Rattle.std.specs.Prelude.{◌≡◌, ℕ, Bool, List, Result, IfOk, OnErr, map};
     ghost use Rattle.std.specs.List.{AllByRecursion};

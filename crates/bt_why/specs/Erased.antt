@@ -36,7 +36,7 @@ pub record Effect : Type 0 where
   pub stop : Bool
   pub cost : ℕ
 
--- of an outcome, all but how often each built-in function was called
+-- an outcome, apart from how often each built-in function was called
 abbrev pub effect_of : Outcome → ℕ → Effect
 effect_of o cost =
     record {
@@ -49,7 +49,7 @@ effect_of o cost =
       cost = cost;
     }
 
--- of a step that was run with marks, without them
+-- what a step with marks did, without the marks
 abbrev pub rerun_effect : Rerun → Effect
 rerun_effect r =
     record {

@@ -1,6 +1,6 @@
 //! Marks through `format.name$`, which puts the words of a name in another order and cuts some of them to their initials.
 //!
-//! A byte of the result comes from the byte of the name behind the one that the byte before it comes from, if they are
+//! A byte of the result comes from the byte of the name after the one that the byte before it comes from, if they are
 //! equal; else a word of the name begins there. All other bytes were put in by the pattern. What is written is a name of a
 //! list, so only that name is searched.
 
@@ -101,7 +101,7 @@ fn word_of(name: &[Marked], bytes: &[u8]) -> Option<usize> {
     best
 }
 
-/// Where in a name the first of these bytes comes from. `next` is the place behind the one of the byte before.
+/// Where in a name the first of these bytes comes from. `next` is the place after the one of the byte before.
 fn place_of(name: &[Marked], next: Option<usize>, bytes: &[u8]) -> Option<usize> {
     let first = *bytes.first()?;
     if let Some(next) = next

@@ -14,10 +14,10 @@ pub struct Written {
     pub step: usize,
 }
 
+/// A line of the output.
 pub type Line = Vec<Written>;
 
-/// A line is broken at one of the places 3 to 79 that has white space, the last of them; else after the first white space
-/// behind.
+/// A line is broken at the last of the places 3 to 79 that has white space; else after the first white space after them.
 const FIRST_BREAK: usize = 3;
 
 const WIDTH: usize = 79;

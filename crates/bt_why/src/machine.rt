@@ -1,7 +1,7 @@
 //! The state of the marked machine: what a step works on, how it reports, and how it takes arguments.
 //!
-//! It does what the style machine does, value by value and message by message, and isn't written for speed. `bt_machine`
-//! has what is proved of a step; who uses this crate compares the two.
+//! It does what the style machine does, value by value and message by message, and isn't written for speed. What is proved
+//! of a step is proved of `bt_machine`; a user of this crate compares the two.
 
 use crate::lines::Line;
 use crate::marks::{Marks, Site, Source};
@@ -14,7 +14,7 @@ use bt_words::Program;
 use std::alloc::{AllocError, Global};
 use std::mem;
 
-/// How many bytes a run may push, where a mark counts as many: beyond that it gives up. A paper with a thousand citations
+/// How many bytes a run may push before it gives up; a mark counts as `MARK_WORK` bytes. A paper with a thousand citations
 /// pushes some ten million.
 const MOST_WORK: usize = 4_000_000_000;
 
@@ -260,7 +260,7 @@ impl<'a> Machine<'a> {
         self.push_text(Vec::new(self.alloc))
     }
 
-    /// Reports an error and pushes what stands for no value, unless the stack is full.
+    /// Reports an error and pushes the default, unless the stack is full.
     pub fn push_zero_in_error(&mut self, complaint: Complaint) -> Result<Flow, AllocError> {
         if self.stack.len() < STACK_LIMIT {
             self.tell(complaint)?;
@@ -275,7 +275,7 @@ impl<'a> Machine<'a> {
         self.push_empty()
     }
 
-    /// The value so many places below the top.
+    /// The value this number of places below the top.
     pub fn below(&self, depth: usize) -> Option<&Value> {
         let place = self.stack.len().checked_sub(depth.saturating_add(1))?;
         self.stack.get(place)
@@ -288,7 +288,7 @@ impl<'a> Machine<'a> {
         }
     }
 
-    /// Whether the value so many places below the top has a kind; none if there is no such value.
+    /// Whether the value this number of places below the top has a kind; none if there is no such value.
     fn has_at(&self, depth: usize, kind: Kind) -> Option<bool> {
         Some(kind.has(self.below(depth)?))
     }
@@ -307,8 +307,8 @@ impl<'a> Machine<'a> {
             .any(|(depth, kind)| self.has_at(depth, *kind) == Some(false))
     }
 
-    /// Whether the topmost values have these kinds, that of the top first. If not, they are taken away, and what is wrong
-    /// is reported.
+    /// Whether the top values have these kinds, the kind of the top first. If not, they are removed, and what is wrong is
+    /// reported.
     pub fn finds(&mut self, builtin: Builtin, kinds: &[Kind]) -> Result<bool, AllocError> {
         if self.has(kinds) {
             return Ok(true);

@@ -26,7 +26,7 @@ pub enum Source {
     Made(Builtin, usize),
     /// A byte that a built-in function put among those with this mark, such as a tie in a name, or made of a number.
     Added(Builtin, Option<usize>),
-    /// A byte that a built-in function put behind a text, such as the full stop of `add.period$`.
+    /// A byte that a built-in function put after a text, such as the full stop of `add.period$`.
     Put(Builtin),
 }
 

@@ -29,7 +29,7 @@ pub struct Rerun {
     pub left: Left,
 }
 
-/// Whether a text is another one, or there is none of both.
+/// Whether two texts are equal, or both are missing.
 fn is_same_text(text: &Option<Shared<Bytes>>, other: &Option<Shared<Bytes>>) -> bool
     ensures { IsTrue result → text.now ≡ other.now }
 {
@@ -112,7 +112,7 @@ fn are_numbers(alloc: Global, own: &[i32], plain: &Values<i32>) -> Result<bool, 
     Ok(equal_numbers(own, numbers.as_slice()))
 }
 
-/// Whether texts are others, but for the marks.
+/// Whether texts are equal, apart from the marks.
 fn are_texts(
     alloc: Global,
     own: &[Shared<Text>],
@@ -126,7 +126,7 @@ fn are_texts(
     Ok(same)
 }
 
-/// Whether variables are others, but for the marks.
+/// Whether variables are equal, apart from the marks.
 fn are_values(
     alloc: Global,
     own: &Variables,
@@ -140,7 +140,7 @@ fn are_values(
     are_texts(alloc, own.texts.as_slice(), &plain.texts)
 }
 
-/// The same, or there are none of both.
+/// The same, or both are missing.
 fn are_own(
     alloc: Global,
     own: &Option<Variables>,
@@ -155,7 +155,7 @@ fn are_own(
     }
 }
 
-/// Variables once more. Their texts are shared.
+/// The same variables; their texts are shared.
 fn shared_variables(alloc: Global, own: &Variables) -> Result<Variables, AllocError>
     ensures { IfOk result (λ same. plain_variables same ≡ plain_variables own.now) }
 {
@@ -165,7 +165,7 @@ fn shared_variables(alloc: Global, own: &Variables) -> Result<Variables, AllocEr
     })
 }
 
-/// The variables of the machine's entry once more.
+/// The variables of the machine's entry, shared.
 fn own_variables(machine: &Machine<'_>) -> Result<Option<Variables>, AllocError> {
     match machine.own_variables() {
         Some(own) => Ok(Some(shared_variables(machine.alloc, own)?)),
@@ -173,7 +173,7 @@ fn own_variables(machine: &Machine<'_>) -> Result<Option<Variables>, AllocError>
     }
 }
 
-/// The messages of the step that the machine ran last.
+/// The messages of the last step.
 fn messages_of(machine: &Machine<'_>, left: &Left) -> Result<Sequence<Message>, AllocError> {
     let key = match machine.own_entry() {
         Some(entry) => Some(&entry.key),
@@ -183,7 +183,7 @@ fn messages_of(machine: &Machine<'_>, left: &Left) -> Result<Sequence<Message>, 
 }
 
 impl Rerun {
-    /// What the step left that the machine ran last.
+    /// What the last step left.
     pub fn of(machine: &Machine<'_>, left: Left) -> Result<Rerun, AllocError>
         ensures globals { IfOk result (λ rerun. plain_variables rerun.globals ≡ plain_variables machine.now.globals) }
         ensures held { IfOk result (λ rerun. rerun.held.items ≡ machine.now.held.items) }
@@ -235,7 +235,7 @@ impl Rerun {
             && are_same_messages(self.messages.as_slice(), outcome.messages.as_slice())
     }
 
-    /// Whether this is, but for the marks, what a step left and cost: its variables, the held line, its lines and
+    /// Whether this is, apart from the marks, what a step left and cost: its variables, the held line, its lines and
     /// messages, whether it ended the run, and its ticks.
     pub fn is_outcome(
         &self,

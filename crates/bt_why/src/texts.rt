@@ -19,6 +19,7 @@ pub struct Marked {
     pub at: usize,
 }
 
+/// A text whose bytes are marked.
 pub type Text = Vec<Marked>;
 
 /// A text without its marks.

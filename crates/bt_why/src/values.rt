@@ -75,7 +75,7 @@ pub struct Variables {
 }
 
 impl Variables {
-    /// So many variables, with the number 0 and the empty text.
+    /// This number of variables, each 0 or the empty text.
     pub fn blank(alloc: Global, numbers: usize, texts: usize) -> Result<Variables, AllocError> {
         let mut variables = Variables {
             numbers: Vec::new(alloc),

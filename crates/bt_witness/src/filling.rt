@@ -1,4 +1,4 @@
-//! Entries that may trigger a fault: they meet what is known of their fields, and the other fields are filled in in a few
+//! Entries that may trigger a fault: they have what is known of their fields, and their other fields are filled in a few
 //! ways.
 
 use bt_check::{Fault, FieldState};
@@ -22,7 +22,7 @@ pub enum Rest {
 pub struct Filling {
     pub rest: Rest,
     pub names: &'static [u8],
-    /// Whether a field that is missing or blank is blank.
+    /// Whether a field that must be missing or blank is made blank.
     pub is_blank: bool,
 }
 

@@ -23,7 +23,7 @@ struct Candidate {
 /// How much is tried. A run of the style takes a fraction of a millisecond for a candidate.
 #[derive(Clone, Copy, PartialEq, Eq)]
 pub enum Effort {
-    /// What fits between two letters.
+    /// As much as fits between two keystrokes.
     Brief,
     Thorough,
 }

@@ -1,6 +1,6 @@
 //! The lines of a style's words, which the style itself doesn't keep.
 //!
-//! Only places are read here. What the words mean is `bt_style`'s; its reader has accepted the text before.
+//! Only places are read here. `bt_style` says what the words mean; its reader has accepted the text before.
 
 use bt_text::{eq_ignore_ascii_case, is_white};
 use std::alloc::{AllocError, Global};
@@ -34,7 +34,7 @@ fn halves(bytes: &[u8], length: usize) -> (&[u8], &[u8]) {
     bytes.split_at(length.min(bytes.len()))
 }
 
-/// How many bytes the piece has with which the bytes begin: white space, a comment, a brace, a literal or a word.
+/// How many bytes the first piece of these bytes has: white space, a comment, a brace, a literal or a word.
 fn piece_length(bytes: &[u8]) -> usize {
     match bytes {
         [] => 0,

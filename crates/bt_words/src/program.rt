@@ -9,6 +9,7 @@ use bt_text::is_white;
 use indexmap::IndexSet;
 use std::alloc::{AllocError, Global};
 
+/// What a word of a body does.
 #[derive(Clone, Copy)]
 pub enum Act {
     Integer(i32),
@@ -20,6 +21,7 @@ pub enum Act {
     Call(Target),
 }
 
+/// A word of a body: what it does, and its line.
 #[derive(Clone, Copy)]
 pub struct Word {
     pub act: Act,
@@ -182,6 +184,7 @@ impl Program {
         Ok(())
     }
 
+    /// The words of a style with this text. The only error is out of memory.
     pub fn of(alloc: Global, style: &Style, text: &[u8]) -> Result<Program, AllocError> {
         let lines = function_lines(alloc, text)?;
         let mut program = Program::empty(alloc);
@@ -194,10 +197,12 @@ impl Program {
         Ok(program)
     }
 
+    /// The number of the empty text among the constants.
     pub fn empty_text(&self) -> usize {
         self.function_count
     }
 
+    /// The words of the body of this number; none if there is no such body.
     pub fn body(&self, body: usize) -> &[Word] {
         match self.bodies.get(body) {
             Some(words) => words.as_slice(),
@@ -220,6 +225,7 @@ impl Program {
         self.text(number).iter().any(|b| !is_white(*b))
     }
 
+    /// The other function, if a function does nothing but call it.
     pub fn alias(&self, function: usize) -> Option<usize> {
         match self.body(function) {
             [

@@ -10,9 +10,10 @@ use bt_text::{Bytes, Sequence};
 use std::alloc::{AllocError, Global};
 use std::marker::Model;
 
-/// How many bytes of a file are read at most.
+/// At most how many bytes of a file are read.
 const MOST_READ: usize = 1_048_577;
 
+/// A file of a folder in memory.
 #[derive(Drop)]
 pub struct KeptFile {
     pub name: Bytes,
@@ -27,12 +28,12 @@ impl Model for KeptFile {
     ghost view = { λ file. record { name = file.name; bytes = file.bytes } };
 }
 
-/// A folder in memory, which also knows what was read of it and written to it.
+/// A folder in memory, which also knows what was read and written.
 #[derive(Drop)]
 pub struct Memory {
     alloc: Global,
     given: Sequence<KeptFile>,
-    /// The names whose bytes find no room.
+    /// The names of the files for whose bytes there is no memory.
     tight: Sequence<Bytes>,
     /// The names that can't be written.
     sealed: Sequence<Bytes>,
@@ -79,7 +80,7 @@ fn keep_name(alloc: Global, names: &mut Sequence<Bytes>, name: &[u8]) -> Result<
     Ok(names.push(Bytes::copied(alloc, name)?)?)
 }
 
-/// The bytes of a file, if it has a name, or else these.
+/// The bytes of a file, if it has this name, or else these.
 fn newer<'a>(file: &'a KeptFile, name: &[u8], found: Option<&'a [u8]>) -> Option<&'a [u8]>
     ensures { option_map (λ b. b.now) result ≡
         (if bytes_eq file.now.name name.now then Some file.now.bytes else option_map (λ b. b.now) found.entry) }
@@ -91,7 +92,7 @@ fn newer<'a>(file: &'a KeptFile, name: &[u8], found: Option<&'a [u8]>) -> Option
     }
 }
 
-/// The bytes of the last of some files that has a name, or these.
+/// The bytes of the last of some files that has this name, or else these.
 #[tactic(auto, using(crate::proofs::FolderLemmas::last_then))]
 fn last_of<'a>(files: &'a [KeptFile], name: &[u8], before: Option<&'a [u8]>) -> Option<&'a [u8]>
     ensures { option_map (λ b. b.now) result
@@ -105,6 +106,7 @@ fn last_of<'a>(files: &'a [KeptFile], name: &[u8], before: Option<&'a [u8]>) -> 
 }
 
 impl Memory {
+    /// A folder without files.
     pub fn new(alloc: Global) -> Self
         ensures { ⟦<Memory as Folder>⟧.seen result ≡ untouched }
     {
@@ -121,18 +123,18 @@ impl Memory {
         }
     }
 
-    /// Gives the folder a file. What is written under its name takes its place.
+    /// Gives the folder a file. Whatever is written under its name replaces it.
     pub fn give(&mut self, name: &str, bytes: &[u8]) -> Result<(), AllocError> {
         keep(self.alloc, &mut self.given, name.as_bytes(), bytes)
     }
 
-    /// Gives the folder a file of so many letters.
+    /// Gives the folder a file of `count` letters.
     pub fn give_letters(&mut self, name: &str, count: usize) -> Result<(), AllocError> {
         let text = letters(self.alloc, count)?;
         self.give(name, text.as_slice())
     }
 
-    /// From now on a read finds no room for the bytes of this name.
+    /// From now on, a read has no memory for the bytes of this name.
     pub fn deny_room(&mut self, name: &str) -> Result<(), AllocError> {
         keep_name(self.alloc, &mut self.tight, name.as_bytes())
     }
@@ -142,12 +144,12 @@ impl Memory {
         keep_name(self.alloc, &mut self.sealed, name.as_bytes())
     }
 
-    /// A line `read NAME` for each read, the first first.
+    /// A line `read NAME` for each read, in order.
     pub fn read_lines(&self) -> &[u8] {
         self.read_lines.as_slice()
     }
 
-    /// The files that were written, the first first.
+    /// The files that were written, in order.
     pub fn written(&self) -> &[KeptFile]
         ensures { Some result.now ≡ (⟦<Memory as Folder>⟧.seen self.now).written }
     {
@@ -165,7 +167,7 @@ impl Memory {
         )
     }
 
-    /// A copy of the first bytes of a name, as many as are read at most.
+    /// A copy of the first bytes of a name, at most as many as are read.
     fn first_bytes(&self, name: &[u8]) -> Result<Option<Bytes>, AllocError>
         ensures { IfOk result (λ bytes. bytes
             ≡ option_map (take most_read) (held_in self.now.given self.now.written name.now)) }

@@ -1,4 +1,4 @@
-//! Sources, sinks and folders in memory, for programs that test what stands on them.
+//! Sources, sinks and folders in memory, for programs that test what is built on them.
 #![tactic(auto)]
 
 mod folder;

@@ -1,21 +1,22 @@
-//! How few bytes a source or a sink moves, and where it fails.
+//! How few bytes a source or a sink moves at once, and where it fails.
 
 ghost use Rattle.std.specs.Prelude.{◌<◌, ◌≤◌};
 
 /// How a source and a sink behave.
 #[derive(Clone, Copy)]
 pub struct Limits<'a> {
-    /// How many bytes a read or a write moves at most; of 0 it moves one.
+    /// At most how many bytes a read or a write moves; for 0, it moves one.
     pub most: usize,
-    /// At which place a read fails.
+    /// The place at which a read fails.
     pub read_fails: usize,
-    /// After how many bytes a write fails.
+    /// The number of bytes after which a write fails.
     pub write_fails: usize,
-    /// The places at which is noted what was handed on.
+    /// The places whose read notes how much was flushed by then.
     pub watched: &'a [usize],
 }
 
 impl Limits<'_> {
+    /// No limits, and no watched places.
     pub fn none() -> Self {
         Limits {
             most: usize::MAX,
@@ -25,6 +26,7 @@ impl Limits<'_> {
         }
     }
 
+    /// The limits of a sink that fails after `room` bytes.
     pub fn writes_up_to(room: usize) -> Self {
         Limits {
             write_fails: room,
@@ -32,7 +34,7 @@ impl Limits<'_> {
         }
     }
 
-    /// How many bytes are moved where so many could be: some, if any could.
+    /// How many bytes are moved if `wanted` could be: at least one, if any could.
     pub(crate) fn moved(self, wanted: usize) -> usize
         ensures few { result ≤ wanted }
         ensures some { 0 < wanted → 0 < result }

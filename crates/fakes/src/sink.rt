@@ -7,7 +7,7 @@ use bt_streams::{Sink, StreamFailed};
 use std::alloc::Global;
 use std::cell::Cell;
 
-/// Keeps what it gets, as far as its limits let it, and shares how many bytes of it were handed on.
+/// Keeps what it gets, as far as its limits let it, and shares how many bytes of it were flushed.
 #[derive(Drop)]
 pub struct Taker<'a> {
     bytes: Vec<u8>,
@@ -18,6 +18,7 @@ pub struct Taker<'a> {
 }
 
 impl<'a> Taker<'a> {
+    /// An empty sink with these limits. Each flush sets `handed_on` to the number of bytes that were written.
     pub fn new(alloc: Global, limits: Limits<'a>, handed_on: &'a Cell<usize>) -> Self
         ensures bytes { (⟦<Taker<'a> as Sink>⟧.seen result).contents ≡ Some [] }
         ensures failures { (⟦<Taker<'a> as Sink>⟧.seen result).failures ≡ 0 }
@@ -32,6 +33,7 @@ impl<'a> Taker<'a> {
         }
     }
 
+    /// The bytes that were written.
     pub fn bytes(&self) -> &[u8]
         ensures { Some result.now ≡ (⟦<Taker<'a> as Sink>⟧.seen self.now).contents }
     {

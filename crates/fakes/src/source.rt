@@ -1,4 +1,4 @@
-//! A source in memory, which sees what a sink has handed on.
+//! A source in memory, which sees what a sink has flushed.
 
 ghost use Rattle.std.specs.Prelude.{◌≡◌, ◌-◌, ◌^◌, Some};
 
@@ -7,14 +7,14 @@ use bt_streams::{Source, StreamFailed};
 use std::alloc::Global;
 use std::cell::Cell;
 
-/// Notes what was handed on, if a place is watched.
+/// Notes how much was flushed, if a place is watched.
 fn note(notes: &mut Vec<usize>, watched: &[usize], place: usize, handed_on: usize) {
     if watched.contains(&place) {
         let _ = notes.push(handed_on);
     }
 }
 
-/// Gives the bytes of a text, and notes at some of its places how many bytes a sink had handed on when they were read.
+/// Gives the bytes of a text, and notes, for some of its places, how many bytes a sink had flushed when they were read.
 #[derive(Drop)]
 pub struct Giver<'a> {
     len: usize,
@@ -27,6 +27,7 @@ pub struct Giver<'a> {
 }
 
 impl<'a> Giver<'a> {
+    /// A source of this text with these limits. At watched places it notes `handed_on`, how much a sink has flushed.
     pub fn new(
         alloc: Global,
         text: &'a [u8],
@@ -53,7 +54,7 @@ impl<'a> Giver<'a> {
         self.len.saturating_sub(self.rest.len())
     }
 
-    /// How many bytes had been handed on at each read of a watched place, the first first.
+    /// How many bytes had been flushed at each read of a watched place, in order.
     pub fn notes(&self) -> &[usize] {
         self.notes.as_slice()
     }

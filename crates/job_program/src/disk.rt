@@ -1,9 +1,9 @@
 //! Writes files so that a kill leaves the old file or the new one.
 //!
-//! A file's new text goes into a draft beside it, under a name that nothing has yet, and the draft takes the file's name once
-//! it is whole. Some files are written over instead: what isn't an ordinary file, such as a device; a file that has a second
-//! name, which would keep the old text; somebody else's file, which would change hands; and one beside which nothing can be
-//! made.
+//! A file's new text is written into a draft beside it, under an unused name, and once the draft is complete, it takes the
+//! file's name. Some files are overwritten in place instead: what isn't an ordinary file, such as a device; a file with a
+//! second name, which would keep the old text; somebody else's file, whose owner would change; and a file in a folder in
+//! which nothing can be created.
 
 use bt_search::folder_of;
 use std::alloc::{AllocError, Global};
@@ -11,7 +11,7 @@ use std::fs::{self, File, OpenOptions};
 use std::io::{ErrorKind, Write};
 use std::os::unix::fs::MetadataExt;
 
-/// Whether a file can be opened for writing. One that isn't there is made if `create` says so.
+/// Whether a file can be opened for writing. If `create` is true, a missing one is created.
 fn opens(rt: &HostRuntime, path: &str, create: bool) -> bool {
     OpenOptions::new()
         .write(true)
@@ -23,15 +23,15 @@ fn opens(rt: &HostRuntime, path: &str, create: bool) -> bool {
 /// How a file gets a new text.
 #[derive(Drop)]
 enum Way {
-    /// By a draft that takes the place of this ordinary file, which is there or not.
+    /// By a draft that replaces this ordinary file, which may be missing.
     Draft(String),
-    /// By writing it over: a device, a pipe, or a file with a second name.
+    /// By overwriting it in place: a device, a pipe, or a file with a second name.
     Over,
     /// It can't be written.
     Nowhere,
 }
 
-/// The way for a file that isn't there. A link to nothing is followed.
+/// The way for a missing file. A link to nothing is followed.
 fn way_to_new(alloc: Global, rt: &HostRuntime, path: &str) -> Result<Way, AllocError> {
     if fs::read_link(rt, path).is_err() {
         return Ok(Way::Draft(String::from_str(alloc, path)?));
@@ -59,7 +59,7 @@ fn way_to(alloc: Global, rt: &HostRuntime, path: &str) -> Result<Way, AllocError
     }
 }
 
-/// A new file beside the one whose text it gets. Unless it takes that one's place, it is removed.
+/// A new file beside the one for which it is written. It is removed unless it replaces that one.
 struct Draft<'a> {
     rt: &'a HostRuntime,
     file: File,
@@ -109,7 +109,7 @@ impl<'a> Draft<'a> {
         Ok(None)
     }
 
-    /// Whether the draft belongs to those whom its file belongs to, so that it may take that one's place.
+    /// Whether the draft has its file's owner and group, so that it may replace the file.
     fn has_same_owner(&self) -> bool {
         match (
             self.file.metadata(),
@@ -120,7 +120,7 @@ impl<'a> Draft<'a> {
         }
     }
 
-    /// Puts the draft in its file's place, with that one's permissions, and says whether that succeeded.
+    /// Replaces the file by the draft, with the file's permissions, and returns whether that succeeded.
     fn put(self) -> bool {
         let target = self.target.as_str();
         if let Ok(found) = fs::metadata(self.rt, target) {
@@ -151,7 +151,7 @@ pub struct Output<'a> {
 
 impl<'a> Output<'a> {
     /// Makes everything ready to write a file; none if it can't be written. `mark` keeps apart the drafts of programs that
-    /// run at once. The one error is out of memory.
+    /// run at once. The only error is out of memory.
     pub fn new(
         alloc: Global,
         rt: &'a HostRuntime,
@@ -172,7 +172,7 @@ impl<'a> Output<'a> {
         };
         let draft = Draft::new(alloc, rt, target, mark)?.filter(|draft| draft.has_same_owner());
         let Some(mut draft) = draft else {
-            // No file can be made in the folder, so there has to be one.
+            // No file can be created in the folder, so this one must be there already.
             return Ok(Some(over).filter(|_| fs::metadata(rt, path).is_ok()));
         };
         if draft.file.write_all(bytes).is_err() {
@@ -184,8 +184,8 @@ impl<'a> Output<'a> {
         }))
     }
 
-    /// Gives the file its new text, and says whether that succeeded. Where no other file may take its place, it is written
-    /// over.
+    /// Gives the file its new text, and returns whether that succeeded. A file that may not be replaced is overwritten in
+    /// place.
     pub fn put(self) -> bool {
         let Output {
             rt,

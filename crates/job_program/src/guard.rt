@@ -29,7 +29,7 @@ impl Rule {
         }
     }
 
-    /// Whether a file of this name may be written, where `output` is the folder that TEXMFOUTPUT names.
+    /// Whether a file of this name may be written. `output` is the folder that TEXMFOUTPUT names.
     pub fn admits(self, path: &str, output: Option<&str>) -> bool {
         match self {
             Rule::Any => true,

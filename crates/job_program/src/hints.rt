@@ -12,7 +12,7 @@ use bt_run::Answers;
 use std::alloc::{AllocError, Global};
 use std::fs;
 
-/// How many hints are printed: more than a screen of them nobody reads.
+/// How many hints are printed at most; nobody reads more than a screen of them.
 const HINTS: usize = 10;
 
 /// The hints of a run: prints them until there are too many.
@@ -36,7 +36,7 @@ impl Hints<'_> {
     }
 }
 
-/// What a job's hints are made of.
+/// What a job's hints are made from.
 #[derive(Clone, Copy)]
 pub struct Job<'a> {
     pub name: &'a str,
@@ -90,7 +90,7 @@ fn has_control_file(alloc: Global, rt: &HostRuntime, job: Job<'_>) -> Result<boo
     }
 }
 
-/// Says so if the document's bibliography is biber's work: nothing in it is BibTeX's.
+/// Prints a hint if biber, and not BibTeX, makes the document's bibliography.
 fn hint_at_biber(alloc: Global, hints: &mut Hints<'_>, job: Job<'_>) -> Result<(), AllocError> {
     let is_bibers = job.says(b"I found no \\bibdata command")
         && (is_biblatex(alloc, job)? || has_control_file(alloc, hints.rt, job)?);
@@ -104,7 +104,7 @@ fn hint_at_biber(alloc: Global, hints: &mut Hints<'_>, job: Job<'_>) -> Result<(
     Ok(())
 }
 
-/// Prints the hints of a run. The one error is out of memory; some may have been printed then.
+/// Prints the hints of a run. The only error is out of memory; some may have been printed then.
 pub fn print(rt: &HostRuntime, job: Job<'_>) -> Result<(), AllocError> {
     let alloc = rt.alloc();
     let mut hints = Hints { rt, left: HINTS };

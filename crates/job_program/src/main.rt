@@ -1,5 +1,5 @@
-//! The program that runs one job for LaTeX's tools. The shell script `bibtex` starts it, and does for it what a program
-//! of this kind can't: it asks `kpsewhich`, and starts another `bibtex`.
+//! The program that runs one job for LaTeX's tools. The shell script `bibtex` starts it, and does what a Rattle program
+//! can't: it calls `kpsewhich`, and starts another `bibtex`.
 #![tactic(auto)]
 
 mod disk;
@@ -25,10 +25,10 @@ use std::fs;
 use std::mem::forget;
 use std::process::ExitCode;
 
-/// The exit status where the job can't be run.
+/// The exit status if the job can't be run.
 const NOT_RUN: u8 = 1;
 
-/// The exit status where a file can't be written.
+/// The exit status if a file can't be written.
 const NOT_WRITTEN: u8 = 3;
 
 fn out_of_memory(rt: &HostRuntime) -> ExitCode {
@@ -36,8 +36,8 @@ fn out_of_memory(rt: &HostRuntime) -> ExitCode {
     ExitCode::FAILURE
 }
 
-/// Asks the script to find missing files, if there are any that it hasn't looked for. The exit status says whether that
-/// succeeded.
+/// Asks the script to find missing files, if there are any that it hasn't looked for. The exit status shows whether
+/// that succeeded.
 fn ask_for_files(
     rt: &HostRuntime,
     script: &Script,
@@ -88,7 +88,7 @@ fn cannot_write(rt: &HostRuntime, path: &str) {
     let _ = eprintln!(rt; "bibtex: can't write {path}");
 }
 
-/// Replaces both files of the job, or leaves both as they are and says which one can't be written.
+/// Replaces both files of the job, or leaves both as they are and reports which one can't be written.
 fn write(
     rt: &HostRuntime,
     script: &Script,
@@ -119,7 +119,7 @@ fn write(
     Ok(true)
 }
 
-/// Writes both files, prints what the run says, and tells the exit status.
+/// Writes both files, prints the messages of the run, and returns the exit status.
 fn finish(
     rt: &HostRuntime,
     script: &Script,
@@ -138,7 +138,7 @@ fn finish(
     })
 }
 
-/// Prints hints, as far as memory suffices: the files are written by then.
+/// Prints hints, as long as there is memory; the files are written by then.
 fn hint(rt: &HostRuntime, options: &Options<'_>, files: &[File], run: &Answers, status: u8) {
     if options.quiet || status == NOT_WRITTEN {
         return;
@@ -173,7 +173,7 @@ fn run_found(
     }
     let status = finish(rt, script, options, &run)?;
     hint(rt, options, files, &run, status);
-    // The program ends here: what the run kept goes with it, at once.
+    // The program ends here, which frees everything at once.
     forget(run);
     Ok(status)
 }
@@ -211,7 +211,7 @@ fn run(rt: &HostRuntime, options: &Options<'_>) -> Result<u8, AllocError> {
         Some(folder) => Some(folder.as_str()),
         None => None,
     };
-    // The .bbl lies in the same folder, and is hidden if the .blg is.
+    // The .bbl is in the same folder, and is hidden if the .blg is.
     let log = format!(in rt.alloc(); "{}.blg", options.job)?;
     if !rule.admits(log.as_str(), output) {
         let _ = eprintln!(rt;
@@ -223,7 +223,7 @@ fn run(rt: &HostRuntime, options: &Options<'_>) -> Result<u8, AllocError> {
     run_job(rt, &script, options)
 }
 
-/// What becomes of a command line that isn't UTF-8, so that this program can't read its files.
+/// What is done with a command line that isn't UTF-8, whose files this program can't read.
 fn refuse_words(rt: &HostRuntime) -> Result<u8, AllocError> {
     let fault: &[u8] = b"the command line isn't UTF-8";
     let script = Script::of(rt)?;
@@ -234,7 +234,7 @@ fn refuse_words(rt: &HostRuntime) -> Result<u8, AllocError> {
     Ok(NOT_RUN)
 }
 
-/// Does what the command line asks for, and tells the exit status.
+/// Does what the command line asks for, and returns the exit status.
 fn answer(rt: &HostRuntime) -> Result<u8, AllocError> {
     let Some(words) = words(rt)? else {
         return refuse_words(rt);

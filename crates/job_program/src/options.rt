@@ -1,4 +1,4 @@
-//! The command line, in the forms that LaTeX's tools and scripts pass: options with one dash or two, and a job with or
+//! The command line, in the forms that LaTeX's tools and scripts use: options with one dash or two, and a job with or
 //! without its ending.
 
 /// What a command line asks for.
@@ -6,11 +6,11 @@
 pub struct Options<'a> {
     /// The job's name, without `.aux`.
     pub job: &'a str,
-    /// An uncited entry is listed once so many entries refer to it.
+    /// How many entries must refer to an uncited entry before it is listed.
     pub min: u16,
-    /// Whether the names of the files aren't printed.
+    /// Whether to leave out the names of the files.
     pub terse: bool,
-    /// Whether no hints are printed.
+    /// Whether to leave out the hints.
     pub quiet: bool,
     /// Whether another `bibtex` may do the job.
     pub may_hand_over: bool,
@@ -22,11 +22,11 @@ pub enum Wrong<'a> {
     NoJob,
     TwoJobs(&'a str, &'a str),
     UnknownOption(&'a str),
-    /// The word in the place of the number of `-min-crossrefs`, if there is one.
+    /// The word where the number of `-min-crossrefs` must be, if there is one.
     NoNumber(Option<&'a str>),
 }
 
-/// What the words of a command line come to.
+/// What the words of a command line mean.
 #[derive(Clone, Copy)]
 pub enum Request<'a> {
     Run(Options<'a>),
@@ -68,7 +68,7 @@ const NAMES: &[&str] = &[
     "version",
 ];
 
-/// The option that begins so, if just one does.
+/// The option that begins like this, if there is exactly one; else the beginning itself.
 fn full_name(start: &str) -> &str {
     let mut found = NAMES.iter().filter(|name| name.starts_with(start));
     match (found.next(), found.next()) {
@@ -133,7 +133,7 @@ impl<'a> Reader<'a> {
         Ok(())
     }
 
-    /// Takes a word. An error is what the whole command line comes to.
+    /// Takes a word. An error is the result of the whole command line.
     fn take(&mut self, word: &'a str) -> Result<(), Request<'a>> {
         if self.wants_number {
             return self.take_number(word);
@@ -165,7 +165,7 @@ impl<'a> Reader<'a> {
     }
 }
 
-/// What these words ask for, of which the first is the program's name.
+/// What these words ask for, the first of which is the program's name.
 pub fn parse<'a>(words: &'a [String]) -> Request<'a> {
     let mut reader = Reader {
         options: Options {

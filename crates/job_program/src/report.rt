@@ -31,13 +31,13 @@ then by kpsewhich, but only by kpsewhich if BIBINPUTS or BSTINPUTS is set.
 Exit status: 0 for a clean run or warnings, 1 if the job can't be run or memory ran out, 2 for
 errors, 3 for a fatal error or a file that can't be written.";
 
-/// Prints bytes to standard error, as far as that succeeds.
+/// Prints bytes to standard error. A failure is ignored.
 pub fn complain(rt: &HostRuntime, pieces: &[&[u8]]) {
     let mut err = WriterSink::new(rt.stderr());
     let _ = say(&mut err, pieces);
 }
 
-/// Says in a line what is wrong with a command line, as far as that succeeds.
+/// Prints a line that says what is wrong with a command line. A failure is ignored.
 pub fn refuse(rt: &HostRuntime, wrong: Wrong<'_>) {
     let _ = match wrong {
         Wrong::NoJob => eprintln!(rt;
@@ -83,7 +83,7 @@ fn shown_of(alloc: Global, messages: &[Message]) -> Result<Sequence<Message>, Al
     Ok(shown)
 }
 
-/// What the terminal shows of a run. The one error is out of memory.
+/// What the terminal shows of a run. The only error is out of memory.
 pub fn printed(alloc: Global, answers: &Answers, terse: bool) -> Result<Bytes, AllocError> {
     let messages = answers.messages.as_slice();
     if terse {
@@ -93,7 +93,7 @@ pub fn printed(alloc: Global, answers: &Answers, terse: bool) -> Result<Bytes, A
     log_bytes(alloc, shown.as_slice())
 }
 
-/// Prints bytes to standard output, as far as that succeeds.
+/// Prints bytes to standard output. A failure is ignored.
 pub fn print(rt: &HostRuntime, text: &[u8]) {
     let mut out = WriterSink::new(io::writer(rt));
     let _ = say(&mut out, &[text]);

@@ -1,4 +1,4 @@
-//! When another `bibtex` does a job better: this program ends a run at a style's first fault and at its limits, where the
+//! When another `bibtex` should do a job: this program ends a run at a style's first fault and at its limits, but the
 //! original goes on.
 
 use bt_log::{Message, Place, Rank, Said};
@@ -34,7 +34,7 @@ fn is_value_limit(message: &Message) -> bool {
     }
 }
 
-/// The message of what another program wouldn't have ended, or left out, if there is one.
+/// The message about something that another program would have carried on or kept, if there is one.
 pub fn reason(answers: &Answers) -> Option<&Message> {
     answers.messages.as_slice().iter().find(|message| {
         is_style_fault(message) || is_step_limit(message) || is_value_limit(message)

@@ -1,4 +1,4 @@
-//! Inputs of a step whose function reaches the title of its entry, and not the note.
+//! Inputs of a step whose function reaches its entry's title, but not the note.
 
 use bt_machine::{Entry, Input, Variables, agrees};
 use bt_style::{Builtin, Reach, Style, Target, read_style};

@@ -1,4 +1,4 @@
-//! Cases of the command line and of the one-shot form, over a folder in memory, and what came of each.
+//! Cases of the command line and of the one-shot form, over a folder in memory, and the result of each.
 
 ghost use Rattle.std.specs.Prelude.{◌≡◌, ◌<◌, ◌^◌, ◌-◌, true};
 ghost use Rattle.bibtex.specs.Present.{is_root_name};
@@ -50,7 +50,7 @@ fn tell_options(rt: &HostRuntime, options: &Options) -> Result<()> {
     Ok(())
 }
 
-/// Runs a job over a folder and sinks of any kind: what is proved of that isn't used here, and would be slow to carry.
+/// Runs a job. It is generic and ensures nothing, so its callers don't carry along what is proved of the run.
 fn run_job<F: Folder, O: Sink, E: Sink>(
     alloc: Global,
     options: &Options,
@@ -93,7 +93,7 @@ fn run(rt: &HostRuntime, options: &Options, folder: &mut Memory, room: (usize, u
     tell_ended(rt, status, folder, out.bytes(), err.bytes())
 }
 
-/// Tells what a command line asks for, or the fault that it has.
+/// Prints what a command line asks for, or its fault.
 fn tell_line(rt: &HostRuntime, words: &[String]) -> Result<()> {
     match parse_options(rt.alloc(), words) {
         Ok(options) => tell_options(rt, &options),
@@ -101,7 +101,7 @@ fn tell_line(rt: &HostRuntime, words: &[String]) -> Result<()> {
     }
 }
 
-/// Tells what comes of the job of a command line, or the fault that it has.
+/// Runs the job of a command line and prints the result, or prints the fault of the command line.
 fn tell_run(
     rt: &HostRuntime,
     words: &[String],
@@ -115,7 +115,7 @@ fn tell_run(
     }
 }
 
-/// A folder, and how many bytes standard output and standard error take.
+/// A folder, and how many bytes standard output and standard error accept.
 #[derive(Drop)]
 pub struct Job {
     folder: Memory,
@@ -143,9 +143,9 @@ impl Case for Job {
         })
     }
 
-    /// `file NAME LEN` and so many bytes, `letters NAME LEN`: a file of the folder. `no_room NAME`: bytes for which there
-    /// is no room. `unwritable NAME`: a name that can't be written. `out LEN`, `err LEN`: how many bytes they take.
-    /// `options WORD|WORD|..`, `run ..`, `faults ..`: a command line.
+    /// `file NAME LEN` with LEN bytes, `letters NAME LEN`: a file of the folder. `no_room NAME`: a file for whose bytes
+    /// there is no memory. `unwritable NAME`: a file that can't be written. `out LEN`, `err LEN`: how many bytes they
+    /// accept. `options WORD|WORD|..`, `run ..`, `faults ..`: a command line.
     fn carry_out<'a>(
         &mut self,
         rt: &HostRuntime,

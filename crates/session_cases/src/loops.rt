@@ -1,4 +1,4 @@
-//! Runs of the command loop over sources and sinks that fail, or move few bytes at a time, and what came of each.
+//! Runs of the command loop over sources and sinks that fail or move few bytes at a time, and the result of each.
 
 ghost use Rattle.std.specs.Prelude.{◌<◌, ◌-◌, ◌^◌};
 
@@ -13,7 +13,7 @@ use std::alloc::{AllocError, Global};
 use std::cell::Cell;
 use std::fmt::Display;
 
-/// Answers the commands of a source, of any kind: what is proved of that isn't used here, and would be slow to carry.
+/// Runs the loop. It is generic and ensures nothing, so its callers don't carry along what is proved of the loop.
 fn answer_input<S: Source, K: Sink>(
     alloc: Global,
     source: &mut S,
@@ -112,7 +112,7 @@ fn title(word: &str) -> &'static str {
     }
 }
 
-/// An input, how it moves, and where it is watched.
+/// An input, how many bytes are moved at most, and the places whose reads are watched.
 #[derive(Drop)]
 pub struct Loop {
     input: Vec<u8>,
@@ -121,7 +121,7 @@ pub struct Loop {
 }
 
 impl Loop {
-    /// Answers the input, which is cut short after so many bytes, or of which the read or the write fails there.
+    /// Runs the loop over the input, which is cut short at this place, or whose read or write fails there.
     fn run(&self, rt: &HostRuntime, word: &str, place: usize) -> Result<()> {
         let input = self.input.as_slice();
         let mut limits = Limits {
@@ -139,7 +139,7 @@ impl Loop {
         answer(rt, input.get(..end).unwrap_or(input), limits)
     }
 
-    /// Runs for each place from a number to another.
+    /// The same for each place from one number up to another.
     fn run_all(&self, rt: &HostRuntime, word: &str, words: &str) -> Result<()> {
         let (first, end) = split(words);
         for place in number(first)..number(end) {
@@ -158,10 +158,10 @@ impl Case for Loop {
         })
     }
 
-    /// `text LEN` and so many bytes, `letters LEN`: more input. `most LEN`: reads and writes move at most so many bytes.
-    /// `watch PLACE,PLACE,..`: notes what was handed on where a byte of these places is read. `serve`: answers the whole
+    /// `text LEN` with LEN bytes, `letters LEN`: more input. `most LEN`: reads and writes move at most LEN bytes.
+    /// `watch PLACE,PLACE,..`: notes what was flushed when a byte at these places is read. `serve`: answers the whole
     /// input. `cut FIRST END`, `read_fails FIRST END`, `write_fails FIRST END`: answers it for each n from FIRST to
-    /// END - 1, cut short after n bytes, or where the read or write after n bytes fails. `faults`: shows all faults.
+    /// END - 1, cut short after n bytes, or with a read or write that fails there. `faults`: shows all faults.
     fn carry_out<'a>(
         &mut self,
         rt: &HostRuntime,

@@ -1,11 +1,11 @@
-//! Tests of what stands on a session, each by its word:
+//! Tests of sessions and of what is built on them. The words of the command line say which:
 //!
-//! - `scripts` answers the script of standard input: runs of the command loop, a line `jobs`, cases of the one-shot form,
+//! - `scripts` runs the script on standard input: runs of the command loop, a line `jobs`, cases of the one-shot form,
 //!   a line `sessions`, and sessions that are edited;
-//! - `calls` makes each call of `refused`, where no memory is refused.
+//! - `calls` makes each call of `refused` while no memory is refused.
 //!
-//! By `refused GROUP.NAME [PART]` it makes one call, for memory that is refused by others, and tells by its exit status
-//! what came of it; `refused names` shows the names of all calls.
+//! `refused GROUP.NAME [PART]` makes one call, for a test that refuses memory from outside; the exit status says what
+//! happened. `refused names` shows the names of all calls.
 #![tactic(auto)]
 
 mod inputs;

@@ -1,6 +1,6 @@
-//! Calls of the libraries where one request for memory may be refused, and what came of them. The words are
-//! `GROUP.NAME`, a case, and how much of it is run: `setup` only makes what its call is made on, `call` then makes the
-//! call, and without a word what comes of it is judged too.
+//! Calls of the libraries in which one request for memory may be refused, and their results. The words are a case,
+//! `GROUP.NAME`, and how much of it is run: `setup` makes only the value for its call, `call` also makes the call;
+//! without a second word, the result is judged too.
 
 mod attempt;
 mod databases;
@@ -17,7 +17,7 @@ use crate::refused::steps::Step;
 use std::alloc::{AllocError, Global};
 use std::process::ExitCode;
 
-/// The names of all cases, by groups. The calls of `free` take no memory.
+/// The names of all cases, by groups. The calls of `free` allocate nothing.
 const CASES: &[(&str, &str)] = &[
     (
         "growing",
@@ -28,7 +28,7 @@ const CASES: &[(&str, &str)] = &[
     ("free", "texts names full-line meter agreement refusing"),
 ];
 
-/// What comes of a case.
+/// The verdict on a case.
 fn verdict_of(alloc: Global, group: &str, name: &str, part: Part) -> Result<Verdict, AllocError> {
     match group {
         "growing" => verdict_on::<Growing>(alloc, name, part),
@@ -38,7 +38,7 @@ fn verdict_of(alloc: Global, group: &str, name: &str, part: Part) -> Result<Verd
     }
 }
 
-/// Whether each call gives the right answer, and none is refused memory.
+/// Whether each call gives the right answer without being refused memory.
 pub fn all_are_right(alloc: Global) -> Result<bool, AllocError> {
     for (group, names) in CASES {
         for name in names.split(' ') {
@@ -67,9 +67,8 @@ fn part_of(word: &str) -> Part {
     }
 }
 
-/// What comes of a case, as an exit status. 0: its call was not refused memory. 10: it was, what it was made on was as
-/// before, and it gave the right answer when it was made once more. 11: something was lost. 12: a request outside of the
-/// call was refused.
+/// The verdict on a case, as an exit status. 0: its call wasn't refused memory. 10: it was, its value was as before,
+/// and the repeated call gave the right answer. 11: something was lost. 12: a request outside of the call was refused.
 fn status_of(alloc: Global, case: &str, part: Part) -> ExitCode {
     let (group, name) = case.split_once('.').unwrap_or((case, ""));
     match verdict_of(alloc, group, name, part) {
@@ -80,7 +79,7 @@ fn status_of(alloc: Global, case: &str, part: Part) -> ExitCode {
     }
 }
 
-/// Makes the call that words name, or shows the names of all.
+/// Makes the call that the words name, or shows the names of all calls.
 pub fn call(rt: &HostRuntime, words: &[String]) -> anyhow::Result<ExitCode> {
     match words {
         [word] if word.as_str() == "names" => show_names(rt),

@@ -1,4 +1,4 @@
-//! Scripts: a step a line, whose first word says what it does; the bytes that it brings follow its line.
+//! Scripts have a step on each line. Its first word says what it does; the bytes that it brings follow the line.
 
 use anyhow::Result;
 
@@ -8,12 +8,12 @@ pub struct Script<'a> {
     rest: &'a [u8],
 }
 
-/// What the steps of a case are made on.
+/// What the steps of a case work on.
 pub trait Case: Drop {
-    /// What there is before the first step.
+    /// The value before the first step.
     fn begun(rt: &HostRuntime) -> Result<Self>;
 
-    /// Makes a step, and shows what came of it.
+    /// Carries out a step, and prints its result.
     fn carry_out<'a>(
         &mut self,
         rt: &HostRuntime,
@@ -27,7 +27,7 @@ impl<'a> Script<'a> {
         Script { rest }
     }
 
-    /// Takes the next line. There is none where no line feed is left, or where the line is no text.
+    /// Takes the next line; none if no line feed is left, or if the line isn't UTF-8.
     pub fn line(&mut self) -> Option<&'a str> {
         let end = self.rest.iter().position(|byte| *byte == b'\n')?;
         let line = str::from_utf8(self.rest.get(..end)?).ok()?;
@@ -35,7 +35,7 @@ impl<'a> Script<'a> {
         Some(line)
     }
 
-    /// Takes so many bytes, or all that are left.
+    /// Takes `count` bytes, or all that are left.
     pub fn bytes(&mut self, count: usize) -> &'a [u8] {
         let (bytes, rest) = self.rest.split_at(count.min(self.rest.len()));
         self.rest = rest;
@@ -43,12 +43,12 @@ impl<'a> Script<'a> {
     }
 }
 
-/// The first word of a line, and what is behind the space after it.
+/// The first word of a line, and what follows the space after it.
 pub fn split(line: &str) -> (&str, &str) {
     line.split_once(' ').unwrap_or((line, ""))
 }
 
-/// The number that a word is, or 0.
+/// The number that a word spells, or 0.
 pub fn number(word: &str) -> usize {
     word.parse::<usize>().unwrap_or(0)
 }
@@ -58,7 +58,7 @@ pub fn text(bytes: &[u8]) -> &str {
     str::from_utf8(bytes).unwrap_or("no text\n")
 }
 
-/// Answers cases up to this line or the end; a line `case NAME` begins one.
+/// Runs cases up to the line `end`, or to the end of the script; a line `case NAME` begins one.
 pub fn answer_all<C: Case>(rt: &HostRuntime, script: &mut Script<'_>, end: &str) -> Result<()> {
     let mut case = C::begun(rt)?;
     for _ in 0..u32::MAX {

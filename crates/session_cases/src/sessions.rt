@@ -1,5 +1,5 @@
-//! Sessions that are edited step by step, and what they show: names that no command can spell, the names that are
-//! wanted, the terse log, messages, reasons against an edit, and that nothing changes when an edit is refused.
+//! Sessions that are edited step by step, and what they show: names that no command can spell, wanted names, the terse
+//! log, messages, reasons to refuse an edit, and that a refused edit changes nothing.
 
 use crate::inputs::agree;
 use crate::script::{Case, Script, number, split, text};
@@ -30,7 +30,7 @@ fn push_texts(session: &Session, seen: &mut Bytes) -> Result<(), AllocError> {
     Ok(())
 }
 
-/// All that a session answers.
+/// All that a session shows.
 fn seen(alloc: Global, session: &Session) -> Result<Bytes, AllocError> {
     let words = format!(in alloc; "{:?}", session.messages())?;
     let mut seen = Bytes::from_vec(words.into_bytes());
@@ -43,18 +43,18 @@ fn shows(alloc: Global, session: &Session, wanted: &Bytes) -> Result<bool, Alloc
     Ok(seen(alloc, session)?.as_slice() == wanted.as_slice())
 }
 
-/// A new session. What is proved of it isn't used here, and would be slow to carry.
+/// A new session. The function ensures nothing, so its callers don't carry along what is proved of a session.
 pub fn begin(alloc: Global, root: &[u8], min: u32) -> Result<Session, Refusal> {
     Session::new(alloc, root, min)
 }
 
-/// Makes an edit, of which the same holds.
+/// Makes an edit. It ensures nothing, for the same reason.
 pub fn make(session: &mut Session, edit: Edit<'_>) -> Result<Report, Refusal> {
     session.edit(edit)
 }
 
-/// The edit of a line: `write LEN NAME` and so many bytes, `splice START END LEN NAME` and so many bytes, `remove NAME`,
-/// `root NAME`, or `min N`. A name may have spaces in it.
+/// The edit of a line: `write LEN NAME` or `splice START END LEN NAME` with LEN bytes, `remove NAME`, `root NAME`, or
+/// `min N`. A name may have spaces in it.
 fn edit_of<'a>(line: &'a str, script: &mut Script<'a>) -> Edit<'a> {
     let (word, words) = split(line);
     let (first, rest) = split(words);
@@ -83,7 +83,7 @@ fn tell_answer(rt: &HostRuntime, answer: Result<Report, Refusal>) -> Result<()> 
     Ok(())
 }
 
-/// Makes an edit. If memory ran out and all is as before, standard error says so, and the edit is made once more.
+/// Makes an edit. If memory ran out and the session is as before, standard error says so, and the edit is made again.
 fn made(
     rt: &HostRuntime,
     session: &mut Session,
@@ -98,7 +98,7 @@ fn made(
     Ok(make(session, edit))
 }
 
-/// Tells after a refusal whether all is as before.
+/// Prints, after a refusal, whether the session is as before.
 fn tell_change(rt: &HostRuntime, session: &Session, before: &Bytes) -> Result<()> {
     if shows(rt.alloc(), session, before)? {
         println!(rt; "all is as before")?;
@@ -108,7 +108,7 @@ fn tell_change(rt: &HostRuntime, session: &Session, before: &Bytes) -> Result<()
     Ok(())
 }
 
-/// Makes an edit, and gives its report.
+/// Makes an edit, prints the answer, and returns the report.
 fn tell_edit(rt: &HostRuntime, session: &mut Session, edit: Edit<'_>) -> Result<Option<Report>> {
     let before = seen(rt.alloc(), session)?;
     let answer = made(rt, session, edit, &before)?;
@@ -119,7 +119,7 @@ fn tell_edit(rt: &HostRuntime, session: &mut Session, edit: Edit<'_>) -> Result<
     Ok(answer.ok())
 }
 
-/// Gives a new session the present texts of another one, and gives the last report.
+/// Gives a new session the present texts of another one, and returns the last report.
 fn give_texts(anew: &mut Session, session: &Session) -> Result<Option<Report>, Refusal> {
     let mut last = None;
     for name in NAMES {
@@ -130,7 +130,7 @@ fn give_texts(anew: &mut Session, session: &Session) -> Result<Option<Report>, R
     Ok(last)
 }
 
-/// Whether two reports, if both are there, have as many steps.
+/// Whether two reports, if there are both, count equally many steps.
 fn are_as_long(one: Option<Report>, other: Option<Report>) -> bool {
     match (one, other) {
         (Some(one), Some(other)) => {
@@ -144,7 +144,7 @@ fn shows_same(alloc: Global, session: &Session, anew: &Session) -> Result<bool, 
     shows(alloc, anew, &seen(alloc, session)?)
 }
 
-/// Tells whether a new session, which is given the present texts, shows the same, with as many steps in its last report.
+/// Prints whether a new session with the present texts shows the same, and its last report counts as many steps.
 fn tell_difference(
     rt: &HostRuntime,
     session: &Session,
@@ -174,7 +174,7 @@ fn tell_letters(rt: &HostRuntime, session: &mut Session, words: &str) -> Result<
     tell_edit(rt, session, edit)
 }
 
-/// Makes edits as one list, of which the same holds.
+/// Makes edits as one list. It ensures nothing, for the same reason.
 fn make_all(
     alloc: Global,
     session: &mut Session,
@@ -189,7 +189,7 @@ fn has_run_out(answers: &[Result<Report, Refusal>]) -> bool {
         .any(|each| matches!(each, Err(Refusal::OutOfMemory)))
 }
 
-/// Makes edits as one list. Nothing is given if memory ran out.
+/// Makes edits as one list. Returns nothing if memory ran out.
 fn made_once(
     alloc: Global,
     session: &mut Session,
@@ -202,7 +202,7 @@ fn made_once(
     Some(answers)
 }
 
-/// Tells that memory ran out in a list of edits, and whether something has changed.
+/// Reports that memory ran out in a list of edits, and whether something has changed.
 fn tell_run_out(rt: &HostRuntime, session: &Session, before: &Bytes) -> Result<()> {
     if !shows(rt.alloc(), session, before)? {
         println!(rt; "something has changed")?;
@@ -218,7 +218,7 @@ fn tell_answers(rt: &HostRuntime, answers: &[Result<Report, Refusal>]) -> Result
     Ok(())
 }
 
-/// Makes edits as one list; once more if memory ran out.
+/// Makes edits as one list; again if memory ran out.
 fn tell_list(rt: &HostRuntime, session: &mut Session, edits: &[Edit<'_>]) -> Result<()> {
     let before = seen(rt.alloc(), session)?;
     if let Some(answers) = made_once(rt.alloc(), session, edits) {
@@ -253,7 +253,7 @@ fn tell_list_of<'a>(
     tell_list(rt, session, &edits)
 }
 
-/// Tells the first reason against an edit that brings so many bytes.
+/// Prints the first reason to refuse an edit that brings this number of bytes.
 fn tell_reason<'a>(
     rt: &HostRuntime,
     session: &Session,
@@ -327,7 +327,7 @@ fn show(rt: &HostRuntime, session: &Session, word: &str, words: &str) -> Result<
     Ok(())
 }
 
-/// A session that is edited, and the report of its last edit, if it wasn't refused.
+/// A session, and the report of its last edit, unless that was refused.
 #[derive(Drop)]
 pub struct Edited {
     session: Session,
@@ -342,10 +342,10 @@ impl Case for Edited {
         })
     }
 
-    /// An edit; `letters LEN NAME`: a write of so many letters; `list N`: the edits of the next N lines as one list;
-    /// `refusal SIZE EDIT`: the first reason against an edit that brings so many bytes; `anew MIN ROOT`: whether a new
-    /// session shows the same; `wanted`: the names that are wanted; `text NAME`; `show`: the status, the bibliography,
-    /// and both logs; `bibliography`; `message`: the last one; `messages`: all, with all their parts;
+    /// An edit; `letters LEN NAME`: a write of LEN letters; `list N`: the edits of the next N lines as one list;
+    /// `refusal SIZE EDIT`: the first reason to refuse an edit that brings SIZE bytes; `anew MIN ROOT`: whether a new
+    /// session shows the same; `wanted`: the wanted names; `text NAME`; `show`: the status, the bibliography, and both
+    /// logs; `bibliography`; `message`: the last one; `messages`: all, with all their parts;
     /// `agrees KEY,TITLE,NOTE KEY,TITLE,NOTE`: whether the steps of two such entries agree.
     fn carry_out<'a>(
         &mut self,

@@ -20,7 +20,7 @@ is_part_byte Whole b = not (ends_argument b)
 abbrev pub is_part : Parting → List ℕ → Bool
 is_part p part = list_all (is_part_byte p) part
 
--- Whether an argument can have so many parts: without a fault it has one at least, and a fault drops one.
+-- Whether an argument can have this number of parts: without a fault at least one; a fault drops one.
 abbrev pub is_part_count : Parting → Option AuxFault → ℕ → Bool
 is_part_count Commas None n = nat_le 1 n
 is_part_count Commas (Some fault) n = true
@@ -32,7 +32,7 @@ pub record IsWritableItem (i : AuxItem) : Type 0 where
   pub parts : All (λ part. is_part (parting i.command) part ≡ true) i.parts
   pub count : is_part_count (parting i.command) i.fault (length i.parts) ≡ true
 
--- items that a text can have from a line on: each stands on a later line than the one before
+-- items that a text can have from a line on: each is on a later line than the one before
 abbrev pub IsWritableFrom : ℕ → List AuxItem → Type 0
 IsWritableFrom line [] = Unit {0}
 IsWritableFrom line (i ∷ is) = (line ≤ i.line) × IsWritableItem i × IsWritableFrom (i.line + 1) is

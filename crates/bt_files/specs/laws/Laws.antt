@@ -16,7 +16,7 @@ abbrev pub SessionNamesDiffer : Type 0
 SessionNamesDiffer = (table : List (List ℕ)) (author other session : List ℕ) → length table < 2 ^ 64 →
     session_name table author ≡ Some session → session_name table other ≡ Some session → author ≡ other
 
--- Where a table has the names that were met, the author's name of a session's file leads back to that file.
+-- If a table has the names that were met, the author's name of a session's file leads back to that file.
 abbrev pub AuthorNamesLeadBack : Type 0
 AuthorNamesLeadBack = (met : List (List ℕ)) (author session : List ℕ) → is_file_name session ≡ true →
     author_name (fold with_author [] met) session ≡ Some author →
@@ -34,7 +34,7 @@ pub record SessionNamesStay : Type 0 where
   pub kept : (table : List (List ℕ)) (other author session : List ℕ) →
       session_name table author ≡ Some session → session_name (with_author table other) author ≡ Some session
 
--- Where no name needs another one, each message stays as it is.
+-- If no name needs another one, each message stays as it is.
 abbrev pub MessagesStayWithoutNames : Type 0
 MessagesStayWithoutNames = (message : Message) → put_back [] message ≡ message
 

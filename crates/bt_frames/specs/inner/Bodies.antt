@@ -1,4 +1,4 @@
--- The end of a header, and the body behind one.
+-- The end of a header, and the body after one.
 use Rattle.std.specs.Prelude.{◌≡◌, ◌<◌, ◌≤◌, ◌⊎◌, ℕ, Bool, true, false, List, length, Option}
 use Rattle.std.specs.Io.KnownBytes.{Consumes, IsAtEnd}
 use Rattle.bt_frames.specs.declared.framing.Header.{Header}
@@ -13,7 +13,7 @@ IsEnded first count (Length says) = ⊥
 IsEnded first count End = (first ≡ true) × (count ≡ 0)
 IsEnded first count Cut = (first ≡ false) ⊎ (0 < count)
 
--- what is read of a body of so many bytes
+-- what is read of a body of this many bytes
 abbrev pub ReadsBody : Option (List ℕ) → Option (List ℕ) → ℕ → Frame → Type 0
 ReadsBody old new count (Body body) = (length body.items ≡ count) × (count ≤ body_bytes) × Consumes old new body.items
 ReadsBody old new count NoLength = ⊥

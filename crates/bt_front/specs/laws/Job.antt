@@ -17,7 +17,7 @@ TextsKeepTheirLines =
     → aux_lines (written (map (item_with (renamed table)) (aux_lines text)))
     ≡ map (item_with (renamed table)) (aux_lines text)
 
--- Where a session admits each name, the files mean what they mean in a session.
+-- If a session admits each name, the files mean what they mean in a session.
 abbrev pub PlainJobsStay : Type 0
 PlainJobsStay =
     (files : List File) (root : List ℕ) (min : ℕ) → list_all is_own_name (names_of files root) ≡ true

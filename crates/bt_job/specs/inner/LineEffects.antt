@@ -1,4 +1,4 @@
--- The effect of a line that counts, step by step as in the code: what it adds to what is asked for, and its error or
+-- The effect of a line that matters, step by step as in the code: what it adds to what is asked for, and its error or
 -- the file that it opens.
 use Rattle.std.specs.Prelude.{ℕ, Bool, true, false, List, [], ◌∷◌, ◌++◌, length, codes, Option, Some, None, if◌then◌else◌}
 use Rattle.std.specs.Str.{bytes_eq}
@@ -147,7 +147,7 @@ command_met Database r = record r { database_met = true }
 command_met Style r = record r { style_met = true }
 command_met Nested r = r
 
--- a line that counts
+-- a line that matters
 unfoldable pub item_taken : List File → AuxItem → Progress → Progress × Outcome
 item_taken files item r =
     if is_second item.command r then (r, Wrong (Words (second_words item.command)))

@@ -25,7 +25,7 @@ in_place nested file line (r, Taken) = r
 in_place nested file line (r, Wrong said) = logged_at file line said r
 in_place nested file line (r, Opens name) = nested name r
 
--- the lines of a file that count, in order
+-- the lines of a file that matter, in order
 unfoldable pub lines_taken : (List ℕ → Progress → Progress) → List File → List ℕ → List AuxItem → Progress → Progress
 lines_taken nested files file [] r = r
 lines_taken nested files file (item ∷ items) r =

@@ -34,7 +34,7 @@ Does request old new state state' Written =
     (state' ≡ after_of ran_out state request bytes) × Written (answer_of ran_out state request bytes) ×
     MayRunOut ran_out state request bytes
 
--- a request is answered, and whether it is the last one; or what stands at a fault
+-- a request is answered, and the result says whether it is the last one; or a fault, with what was done before it
 abbrev pub Replies : Request → Option (List ℕ) → Option (List ℕ) → Option (List ℕ) → Option (List ℕ) → State → State →
     Result Bool ServeFault → Type 0
 Replies request old new held held' state state' (Ok last) =
@@ -46,7 +46,7 @@ Replies request old new held held' state state' (Err ReadFailed) =
 Replies request old new held held' state state' (Err Truncated) =
     ReadsBelow old new (bytes_brought request) × IsAtEnd new × (held' ≡ held) × (state' ≡ state)
 
--- how often reading and writing failed: as before, or once more where that is the fault
+-- how often reads and writes failed: as before, or once more if that is the fault
 abbrev pub CountsFailures : ℕ → ℕ → ℕ → ℕ → Result Bool ServeFault → Type 0
 CountsFailures reads reads' writes writes' result =
     OnOk result (reads' ≡ reads) × OnOk result (writes' ≡ writes) × (result ≡ Err ReadFailed → reads' ≡ reads + 1) ×
@@ -57,7 +57,7 @@ abbrev pub taken_text : Result Report Refusal → List ℕ
 taken_text (Ok report) = accepted report
 taken_text (Err refusal) = refused refusal
 
--- the same, where a source and a sink tell their bytes
+-- the same, if a source and a sink show their bytes
 abbrev pub Turns : Option (List ℕ) → Option (List ℕ) → Option (List ℕ) → Option (List ℕ) → State → State →
     Result Bool ServeFault → Type 0
 Turns old new held held' state state' result = (input : List ℕ) (said : List ℕ) → old ≡ Some input → held ≡ Some said →

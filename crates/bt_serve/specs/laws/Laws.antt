@@ -10,8 +10,8 @@ use Rattle.bt_serve.specs.declared.fault.ServeFault.TheVariants.{WriteFailed, Tr
 use Rattle.bt_serve.specs.Edits.{edits_of, Leads}
 use Rattle.bt_serve.specs.laws.Edits.{ComesAfter}
 
--- The join of whole commands is cut into these commands and no others, whatever is cut short after them; after the
--- last one, if it brings no bytes, the line feed may be missing.
+-- Complete commands that were joined are cut apart where they were, whatever incomplete command follows. The last line
+-- feed may be missing if its command brings no bytes.
 pub record CommandsOfJoined : Type 0 where
   pub whole : (cs : List Command) → AllByRecursion IsCommand cs →
       commands_of (flat_map command_text cs) ≡ record { commands = cs; rest = [] }
@@ -20,9 +20,9 @@ pub record CommandsOfJoined : Type 0 where
   pub last : (cs : List Command) (c : Command) → AllByRecursion IsCommand cs → IsBare c →
       commands_of (flat_map command_text cs ++ c.line) ≡ record { commands = cs ++ c ∷ []; rest = [] }
 
--- What the turns of the loop come to, by how it ends. After its last turn all commands up to the one that ends it are
--- answered; where the input ends inside the bytes of its last command, all commands before that one; where a write
--- failed, the commands before one, and a beginning of that one's answer is written.
+-- What the turns of the loop amount to, by how it ends. After its last turn, all commands up to the one that ends it
+-- are answered; if the input ends inside the bytes of its last command, all commands before that one; if a write
+-- failed, all commands before some command, and of its answer a prefix is written.
 pub record TurnsAnswerCommands : Type 0 where
   pub all : (input rest said said' : List ℕ) (s t : State) → Ends input rest said said' s t (Ok true) →
       AnswersAll input said said' s t
@@ -31,7 +31,7 @@ pub record TurnsAnswerCommands : Type 0 where
   pub part : (input rest said said' : List ℕ) (s t : State) →
       Ends input rest said said' s t (Err WriteFailed) → AnswersPart input said said' s t
 
--- The edits that commands ask for lead by `edit_all` to the states after these commands, and to no others.
+-- The states after commands are exactly those to which `edit_all` of their edits can lead.
 pub record EditsOfCommands : Type 0 where
   pub leads : (cs : List Command) (ms : List Bool) (state : State) → length ms ≡ length cs →
       Leads (edits_of cs) state (state_after ms cs state)

@@ -29,12 +29,12 @@ first_line (Front token line rest) = line
 abbrev pub is_byte : ℕ → Bool
 is_byte b = nat_lt b 256
 
--- Other tokens begin with the same one on the same line, whatever stands after it; or both are at their end.
+-- Other tokens begin with the same one on the same line, whatever follows it; or both are at their end.
 abbrev pub BeginsAs : Tokens → Tokens → Type 0
 BeginsAs (AtEnd line) other = other ≡ AtEnd line
 BeginsAs (Front token line rest) other = (behind : Tokens) × (other ≡ Front token line behind)
 
--- A fault stands at one token of a text, or at its end: no style begins with the tokens up to this one, and some style
+-- A fault is at one token of a text, or at its end: no style begins with the tokens up to this one, but some style
 -- begins with those before it.
 pub record StandsAtItsToken (tokens : Tokens) (f : StyleFault) : Type 0 where
   -- the tokens before it, and those from it on
@@ -42,7 +42,7 @@ pub record StandsAtItsToken (tokens : Tokens) (f : StyleFault) : Type 0 where
   pub here : Tokens
   pub whole : tokens ≡ in_front front here
   pub line : f.line ≡ first_line here
-  -- whatever stands after this token, the fault is the same
+  -- whatever follows this token, the fault is the same
   pub final : (other : Tokens) → BeginsAs here other → reading (in_front front other) ≡ Err f
   -- the tokens of some bytes in place of it and of all after it make a style
   pub bytes : List ℕ
@@ -54,14 +54,14 @@ pub record StandsAtItsToken (tokens : Tokens) (f : StyleFault) : Type 0 where
 abbrev pub FaultIsFirst : Type 0
 FaultIsFirst = (text : List ℕ) (f : StyleFault) → style_of text ≡ Err f → StandsAtItsToken (tokens_of text) f
 
--- A token of just these bytes stands before those after it, or the text ends there.
+-- These bytes are exactly one token, which the bytes after it don't extend; or the text ends here.
 abbrev pub StandsInFront : List ℕ → List ℕ → Type 0
 StandsInFront [] behind = behind ≡ []
 StandsInFront (b ∷ more) behind =
     (token : Token) × (piece_at b (more ++ behind) ≡ record { token = Some token; size = suc (length more) })
 
--- The same of the text's bytes: a fault stands at one token, or at the text's end, on its line. No style begins with
--- the bytes up to the token's end, and some style begins with those before the token.
+-- The same for the text's bytes: a fault is at one token, or at the text's end, on its line. No style begins with the
+-- bytes up to the token's end, but some style begins with those before the token.
 pub record StandsInItsText (text : List ℕ) (f : StyleFault) : Type 0 where
   pub before : List ℕ
   pub token : List ℕ
@@ -69,8 +69,8 @@ pub record StandsInItsText (text : List ℕ) (f : StyleFault) : Type 0 where
   pub whole : text ≡ before ++ token ++ behind
   pub one : StandsInFront token behind
   pub line : f.line ≡ 1 + count_by is_line_feed before
-  -- Whatever stands after the token, the fault is the same, if the byte right after it is, which reports that the token
-  -- ends.
+  -- Whatever follows the token, the fault is the same, if the byte right after the token is the same, because that byte
+  -- shows where the token ends.
   pub final : (other : List ℕ) → take 1 other ≡ take 1 behind → style_of (before ++ token ++ other) ≡ Err f
   -- some bytes in place of the token and of all after it make a style
   pub bytes : List ℕ
@@ -81,24 +81,24 @@ pub record StandsInItsText (text : List ℕ) (f : StyleFault) : Type 0 where
 abbrev pub FaultIsFirstInItsText : Type 0
 FaultIsFirstInItsText = (text : List ℕ) (f : StyleFault) → style_of text ≡ Err f → StandsInItsText text f
 
--- The greatest number of commands is never reached: where `reading` begins, and wherever commands go on, each number
--- above that of the tokens that are left gives the same. No other definition of styles has such a reserve.
+-- The bound on the number of commands is never reached: any bound above the number of tokens that are left gives the
+-- same result. No other definition of styles has such a bound.
 abbrev pub AnyBoundServes : Type 0
 AnyBoundServes =
     (most : ℕ) (stage : Stage) (p : Program) (tokens : Tokens) → count tokens < most →
     commands_at most stage p tokens ≡ commands_at (suc (count tokens)) stage p tokens
 
--- A quote is the name of nothing in a style that a text spells: that a literal stands for this word where a name is
--- asked for (`word_at`) lets nothing pass.
+-- In a style that a text spells, nothing is named `"`. So no literal passes as a name, though it counts as this word if
+-- a name is asked for (`word_at`).
 abbrev pub QuoteNamesNothing : Type 0
 QuoteNamesNothing = (text : List ℕ) (p : Program) → style_of text ≡ Ok p → target_named p (codes "\"") ≡ None
 
--- Each function that needs no definition is the one that its name stands for; so no two have one name.
+-- The name of each built-in function stands for that function, so no two have one name.
 abbrev pub FoundByTheirNames : Type 0
 FoundByTheirNames = (b : Builtin) → builtin_named (name_of b) ≡ Some b
 
--- `place_of` gives the place in the table: the function of a name has the place at which the name stands there, and a
--- name that doesn't stand there is that of no function.
+-- `place_of` gives the place in the table: the function of a name has the place that the name has in the table, and a
+-- name that isn't in the table is no function's.
 abbrev pub FoundAtTheirPlaces : Type 0
 FoundAtTheirPlaces = (name : List ℕ) → option_map place_of (builtin_named name) ≡ place_in (map name_of table) name
 
@@ -107,8 +107,8 @@ abbrev pub BodiesAreSpelled : Type 0
 BodiesAreSpelled = (p : Program) (tokens : Tokens) (b : Body) (rest : Tokens) → body_at p [] [] tokens ≡ Ok (b, rest) →
     SpellsBody p b tokens rest
 
--- A body that tokens spell by the grammar of bodies is the one that is read from them, where its braces stand at most
--- 100 deep.
+-- A body that tokens spell by the grammar of bodies is the one that is read from them, if its braces nest at most 100
+-- deep.
 abbrev pub SpelledBodiesAreRead : Type 0
 SpelledBodiesAreRead = (p : Program) (tokens : Tokens) (b : Body) (rest : Tokens) → SpellsBody p b tokens rest →
     depth_of b ≤ 100 → body_at p [] [] tokens ≡ Ok (b, rest)

@@ -6,7 +6,7 @@ use Rattle.bt_style.specs.Program.{Program}
 use Rattle.bt_style.specs.Elements.{word_element}
 
 mutual
-  -- the element is spelled by the tokens up to the second ones
+  -- the first tokens begin with a spelling of the element, and the second ones are left after it
   pub data SpellsElement (p : Program) : Element → Tokens → Tokens → Type 0 where
     ByWord : {e : Element} {word : List ℕ} {line : ℕ} {rest : Tokens} → word_element p word line ≡ Ok e →
         SpellsElement p e (Front (Word word) line rest) rest
@@ -15,14 +15,14 @@ mutual
     ByBraces : {inner : Body} {line : ℕ} {inside rest : Tokens} → SpellsBody p inner inside rest →
         SpellsElement p (Braced inner) (Front Open line inside) rest
 
-  -- the same of a body, with the brace that closes it
+  -- the same for a body and the brace that closes it
   pub data SpellsBody (p : Program) : Body → Tokens → Tokens → Type 0 where
     ByClose : {line : ℕ} {rest : Tokens} → SpellsBody p End (Front Close line rest) rest
     ByElement : {e : Element} {b : Body} {tokens mid rest : Tokens} → SpellsElement p e tokens mid →
         SpellsBody p b mid rest →
         SpellsBody p (Then e b) tokens rest
 
--- how deep braces stand in a body, with the ones around it
+-- how deep the braces of a body nest, its own included
 abbrev mutual
   pub element_depth : Element → ℕ
   element_depth (Amount n) = 0

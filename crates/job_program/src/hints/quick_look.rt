@@ -150,7 +150,7 @@ fn has_other_key(alloc: Global, text: &[u8], parents: &Parents<'_>) -> Result<bo
     Ok(false)
 }
 
-/// Whether the databases may have what is hinted at. The one error is out of memory.
+/// Whether the databases may have what is hinted at. The only error is out of memory.
 pub fn may_be_wrong(alloc: Global, files: &[File]) -> Result<bool, AllocError> {
     let mut parents = IndexMap::new(alloc);
     'fields: for file in files {

@@ -1,31 +1,31 @@
-//! A call to which memory may be refused, and which is then made once more.
+//! A call that may be refused memory, and that is then made once more.
 
 use bt_text::Bytes;
 use std::alloc::{AllocError, Global};
 
-/// What calls are made on, with their answers.
+/// The value on which calls are made, with their answers.
 pub trait Case: Drop {
-    /// What the calls are made on, with no answer yet.
+    /// The value before the first call, without an answer.
     fn begun(alloc: Global) -> Result<Self, AllocError>;
 
-    /// Makes the call of a name, and keeps its answer. The error is that it says that memory ran out.
+    /// Makes the call of this name, and keeps its answer. The error is that the call reports out of memory.
     fn call(&mut self, alloc: Global, name: &str) -> Result<(), AllocError>;
 
-    /// All that can be seen, the answer too.
+    /// All that can be seen of the value, the answer included.
     fn seen(&self, alloc: Global) -> Result<Bytes, AllocError>;
 }
 
 /// How much of a case is run.
 #[derive(Clone, Copy, PartialEq, Eq)]
 pub enum Part {
-    /// What the call is made on, and what must come of the call.
+    /// The value for the call, and the results that it must have.
     Setup,
-    /// That, and the call, once.
+    /// The same, and the call, once.
     Call,
     Whole,
 }
 
-/// What came of a case.
+/// The verdict on a case.
 #[derive(Clone, Copy, PartialEq, Eq)]
 pub enum Verdict {
     NotRefused,
@@ -34,7 +34,7 @@ pub enum Verdict {
     Lost,
 }
 
-/// What is seen before a call that isn't refused memory, and after it.
+/// What is seen before and after a call that isn't refused memory.
 #[derive(Drop)]
 struct Wanted {
     before: Bytes,
@@ -57,7 +57,7 @@ fn shows<C: Case>(alloc: Global, case: &C, wanted: &Bytes) -> Result<bool, Alloc
     Ok(case.seen(alloc)?.as_slice() == wanted.as_slice())
 }
 
-/// What comes of a call.
+/// Makes a call and judges it.
 fn judged<C: Case>(
     alloc: Global,
     case: &mut C,
@@ -78,7 +78,7 @@ fn judged<C: Case>(
     }
 }
 
-/// What comes of as much of the case as is run.
+/// The verdict on a case of which only this part is run.
 fn verdict_in<C: Case>(
     alloc: Global,
     case: &mut C,
@@ -96,7 +96,7 @@ fn verdict_in<C: Case>(
     }
 }
 
-/// What comes of the call of a name. The error is that memory was refused outside of the call.
+/// The verdict on the call of a name. The error is that memory was refused outside of the call.
 pub fn verdict_on<C: Case>(alloc: Global, name: &str, part: Part) -> Result<Verdict, AllocError> {
     let wanted = by_example::<C>(alloc, name)?;
     let mut case = C::begun(alloc)?;

@@ -1,4 +1,4 @@
-//! A database that is read again after a splice.
+//! A database that is re-read after a splice.
 
 ghost use Rattle.std.specs.Prelude.{◌≡◌, ◌+◌, ◌<◌, length, IfOk};
 ghost use Rattle.bt_bib.specs.BibText.{pieces_of};
@@ -15,7 +15,7 @@ const DATABASE: &[u8] =
 /// The byte of the database that is spliced: the title of `a`.
 const BEGIN: usize = 66;
 
-/// The bytes that come in its place.
+/// The bytes that replace it.
 const INSERTED: &[u8] = b"Q, R";
 
 /// A database as it was read, its text, how the splice changes its items, and the items after it.

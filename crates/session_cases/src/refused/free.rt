@@ -1,5 +1,5 @@
-//! Calls that take no memory. What they are made on is made first. From there on nothing asks for memory: neither the
-//! calls, nor the comparison of their answers with the right ones. So `tests/memory` refuses every request from there on.
+//! Calls that allocate nothing. Their values are made first. From then on nothing asks for memory: neither the calls,
+//! nor the comparison of their answers with the right ones. So `tests/memory` refuses every request from then on.
 
 use crate::inputs::{input, reach, style};
 use crate::refused::attempt::{Part, Verdict};
@@ -58,7 +58,7 @@ fn is_not_formatted(alloc: Global, names: &[u8], pattern: &[u8], fault: FormatFa
     }
 }
 
-/// Whether patterns have their fault at the right place, where the name has none.
+/// Whether patterns have their fault at the right place, if the name has none.
 fn are_patterns_refused(alloc: Global) -> bool {
     is_not_formatted(alloc, b"A", b"{ff x}", FormatFault::PatternFault(4))
         && is_not_formatted(alloc, b"A", b"{ff", FormatFault::PatternFault(3))
@@ -105,12 +105,12 @@ fn is_full_line_right(alloc: Global, part: Part) -> Result<bool, AllocError> {
     Ok(part == Part::Setup || takes_no_more(alloc, &mut held, &mut lines))
 }
 
-/// Whether an input agrees with itself, and not with another, in what a step reaches.
+/// Whether an input agrees with itself, and not with another one, in everything that a step reaches.
 fn agrees_alone(style: &Style, one: &Input, other: &Input, reach: &Reach) -> bool {
     agrees(style, one, one, reach) && !agrees(style, one, other, reach)
 }
 
-/// Whether two inputs that differ in their keys alone don't agree in what a step of this style reaches.
+/// Whether two inputs that differ only in their keys don't agree in everything that a step of this style reaches.
 fn are_apart(alloc: Global, style: &Style, part: Part) -> Result<bool, AllocError> {
     let reach = reach(alloc, style)?;
     let one = input(alloc, "key,A,n")?;
@@ -123,7 +123,7 @@ fn is_agreement_right(alloc: Global, part: Part) -> Result<bool, AllocError> {
     are_apart(alloc, &style, part)
 }
 
-/// Whether the calls of this name give the right answers; true where they aren't to be made.
+/// Whether the calls of this name give the right answers; true if they aren't made.
 fn is_right(alloc: Global, name: &str, part: Part) -> Result<bool, AllocError> {
     match name {
         "texts" => Ok(part == Part::Setup || are_texts_right()),
@@ -136,7 +136,7 @@ fn is_right(alloc: Global, name: &str, part: Part) -> Result<bool, AllocError> {
     }
 }
 
-/// What comes of the calls of a name. The error is that memory was refused before them.
+/// The verdict on the calls of a name. The error is that memory was refused before them.
 pub fn verdict_on_free(alloc: Global, name: &str, part: Part) -> Result<Verdict, AllocError> {
     Ok(if is_right(alloc, name, part)? {
         Verdict::NotRefused

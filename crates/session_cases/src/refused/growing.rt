@@ -1,4 +1,4 @@
-//! Texts, lists, tables of names, and the held line: what grows.
+//! What grows: texts, lists, tables of names, and the held line.
 
 use crate::refused::attempt::Case;
 use bt_text::{ByName, Bytes, Held, HeldFault, NameList, Sequence, Shared, SparseTexts};
@@ -27,7 +27,7 @@ fn push_name(alloc: Global, names: &mut NameList, name: &[u8]) -> Result<(), All
     Ok(())
 }
 
-/// Out of memory, where a write of the held line says so.
+/// Out of memory, if a write to the held line reports it.
 fn felt(answer: Result<(), HeldFault>) -> Result<(), AllocError> {
     match answer {
         Err(HeldFault::OutOfMemory) => Err(AllocError),
@@ -70,7 +70,7 @@ fn set(alloc: Global, texts: &mut SparseTexts) -> Result<(), AllocError> {
     texts.set(9, Some(line))
 }
 
-/// A line that fills the room which it gets when it is begun.
+/// A line that fills the room that it gets at its beginning.
 const HELD: &[u8] =
     b"a-held-line-without-white-space-that-fills-the-room-which-it-gets-when-it-is-beg";
 
@@ -92,7 +92,7 @@ impl Growing {
 
 impl Case for Growing {
     fn begun(alloc: Global) -> Result<Self, AllocError> {
-        // The parts with the largest types come last: fewer requests for memory can fail where they are there.
+        // The parts with the largest types are made last, so that fewer requests can fail while they exist.
         let text = Bytes::copied(alloc, b"text")?;
         let list = listed(alloc, 4)?;
         let held = held(alloc)?;

@@ -1,4 +1,4 @@
-//! What a session with as many files as there may be shows, and which edits it refuses.
+//! What a session with the greatest number of files shows, and which edits it refuses.
 
 use crate::refused::attempt::Part;
 use crate::sessions::{begin, make};
@@ -77,7 +77,7 @@ fn refuses_listed(session: &mut Session) -> bool {
     true
 }
 
-/// Whether edits that bring more bytes than a file may have are refused.
+/// Whether edits are refused that bring more bytes than a file may have.
 fn refuses_many(session: &mut Session, many: &[u8]) -> bool {
     let large = Refusal::FileTooLarge;
     is_refused(session, Edit::Write(b"a b", many), Refusal::BadName)
@@ -99,7 +99,7 @@ fn write_one(alloc: Global, session: &mut Session, number: usize) -> Result<(), 
     Ok(())
 }
 
-/// Gives a session the job's files, and others up to as many as there may be.
+/// Gives a session the job's files, and others up to the greatest number of files.
 fn fill_up(alloc: Global, session: &mut Session) -> Result<(), Refusal> {
     for edit in WRITES {
         make(session, *edit)?;
@@ -114,7 +114,7 @@ fn letters(alloc: Global, count: usize) -> Result<Vec<u8>, AllocError> {
     vec![in alloc; b'a'; count]
 }
 
-/// Whether the session shows its job, and refuses edits and keeps showing it.
+/// Whether the session shows its job, refuses edits, and still shows the job then.
 fn refuses_all(alloc: Global, session: &mut Session, many: &[u8]) -> bool {
     shows_two(session)
         && refuses_root(alloc)
@@ -122,7 +122,7 @@ fn refuses_all(alloc: Global, session: &mut Session, many: &[u8]) -> bool {
         && refuses_many(session, many)
 }
 
-/// Fills a session up, and says whether it does what it must then.
+/// Fills a session up, and returns whether it then does what it must.
 fn fills_up(alloc: Global, session: &mut Session, part: Part) -> Result<bool, Refusal> {
     let many = letters(alloc, FILE_BYTES + 1)?;
     fill_up(alloc, session)?;

@@ -7,7 +7,7 @@ use bt_style::{Reach, Style};
 use bt_text::Bytes;
 use std::alloc::{AllocError, Global};
 
-/// A style, what a step of it is given, a meter, and what was answered.
+/// A style, the input of a step, a meter, and the answer.
 #[derive(Drop)]
 pub struct Step {
     style: Style,
