@@ -30,6 +30,8 @@ pub struct Checker<'a> {
     /// Whether faults are only counted.
     pub is_quiet: bool,
     pub quiet_count: usize,
+    /// Whether the function that was run quietly takes from the stack of its caller, or leaves something there.
+    pub is_like_helper: bool,
     /// The calls that are being evaluated.
     pub calls: Vec<Call>,
     pub step: Step,
@@ -90,6 +92,11 @@ impl<'a> Checker<'a> {
         facts: &Facts,
     ) -> Result<(), AllocError> {
         self.quiet_count = self.quiet_count.saturating_add(1);
+        self.is_like_helper |= match kind {
+            FaultKind::Left => true,
+            FaultKind::Empty => self.calls.len() <= 1,
+            _ => false,
+        };
         self.watch_fault(kind);
         if self.is_quiet || self.faults.len() >= MOST_FAULTS || self.is_told(kind) {
             return Ok(());

@@ -40,6 +40,7 @@ impl<'a> Checker<'a> {
             faults: Vec::new(alloc),
             is_quiet: false,
             quiet_count: 0,
+            is_like_helper: false,
             calls: Vec::new(alloc),
             step: Step {
                 function: None,
@@ -177,6 +178,7 @@ impl<'a> Checker<'a> {
     pub fn is_clean(&mut self, function: usize) -> Result<bool, AllocError> {
         self.is_quiet = true;
         self.quiet_count = 0;
+        self.is_like_helper = false;
         let step = Step {
             function: Some(function),
             line: 0,

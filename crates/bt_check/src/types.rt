@@ -2,8 +2,9 @@
 //!
 //! An entry may name any function that is defined before READ, also a helper such as `and`, which fails then. Those meant
 //! are the standard types, functions that call what all of those call (as `output.bibitem` and `fin.entry`), their aliases,
-//! and functions that nothing calls and that run without a fault (as `IEEEtranBSTCTL`). A style without standard types has
-//! others: all that nothing calls, but for helpers, which take from the stack what they haven't put there.
+//! and functions that nothing calls and that run without a fault (as `IEEEtranBSTCTL`) or read fields of their own (as
+//! `Control` of rsc.bst). A style without standard types has others: all that nothing calls. Helpers are left out: they take
+//! from the stack what they haven't put there, or leave something there.
 
 use crate::checker::Checker;
 use crate::signature::takes;
@@ -35,8 +36,11 @@ fn is_standard(name: &[u8]) -> bool {
 
 #[derive(Drop)]
 pub struct Mentions {
-    pub functions: Vec<bool>,
+    /// The functions that are named, each once, in order.
+    pub functions: Vec<usize>,
     pub calls_type: bool,
+    /// The fields that it reads, some of them more than once.
+    pub fields: Vec<usize>,
 }
 
 pub fn marks(alloc: Global, count: usize) -> Result<Vec<bool>, AllocError> {
@@ -77,45 +81,80 @@ pub fn all_words(alloc: Global, program: &Program, body: usize) -> Result<Vec<Wo
 
 pub fn names_in(alloc: Global, program: &Program, function: usize) -> Result<Mentions, AllocError> {
     let mut mentions = Mentions {
-        functions: marks(alloc, program.function_count)?,
+        functions: Vec::new(alloc),
         calls_type: false,
+        fields: Vec::new(alloc),
     };
     let words = all_words(alloc, program, function)?;
     for word in &words {
         match word.act {
             Act::Call(Target::Function(other)) | Act::Quote(Target::Function(other)) => {
-                mark(&mut mentions.functions, other);
+                mentions.functions.push(other)?;
             }
             Act::Call(Target::Builtin(Builtin::CallType))
             | Act::Quote(Target::Builtin(Builtin::CallType)) => {
                 mentions.calls_type = true;
             }
+            Act::Call(Target::Field(field)) => mentions.fields.push(field)?,
             _ => {}
         }
     }
+    mentions.functions.sort_unstable();
+    mentions.functions.dedup();
     Ok(mentions)
-}
-
-fn common(marks: &mut Vec<bool>, others: &[bool]) {
-    for (mark, other) in marks.iter_mut().zip(others.iter()) {
-        *mark = *mark && *other;
-    }
-}
-
-fn shared_count(marks: &[bool], others: &[bool]) -> usize {
-    marks
-        .iter()
-        .zip(others.iter())
-        .filter(|pair| *pair.0 && *pair.1)
-        .count()
 }
 
 #[derive(Drop)]
 pub struct Catalogue {
     pub mentions: Vec<Mentions>,
     pub is_called: Vec<bool>,
-    /// What all standard types name; none if the style has no standard type.
-    pub common: Option<Vec<bool>>,
+    /// The functions that all standard types name; none if the style has no standard type.
+    pub common: Option<Vec<usize>>,
+    /// Whether a function reads a field that no other function reads.
+    pub has_own_field: Vec<bool>,
+}
+
+/// Which functions read a field.
+#[derive(Clone, Copy)]
+enum Readers {
+    None,
+    One(usize),
+    Several,
+}
+
+impl Readers {
+    fn with(self, function: usize) -> Readers {
+        match self {
+            Readers::None => Readers::One(function),
+            Readers::One(other) if other == function => self,
+            _ => Readers::Several,
+        }
+    }
+}
+
+fn with_own_fields(
+    alloc: Global,
+    style: &Style,
+    mentions: &[Mentions],
+) -> Result<Vec<bool>, AllocError> {
+    let mut readers = Vec::new(alloc);
+    for _ in 0..style.fields.len() {
+        readers.push(Readers::None)?;
+    }
+    for (function, one) in mentions.iter().enumerate() {
+        for field in &one.fields {
+            if let Some(readers) = readers.get_mut(*field) {
+                *readers = readers.with(function);
+            }
+        }
+    }
+    let mut has_own_field = marks(alloc, mentions.len())?;
+    for readers in &readers {
+        if let Readers::One(function) = *readers {
+            mark(&mut has_own_field, function);
+        }
+    }
+    Ok(has_own_field)
 }
 
 fn note_call(is_called: &mut Vec<bool>, target: Target) {
@@ -127,10 +166,8 @@ fn note_call(is_called: &mut Vec<bool>, target: Target) {
 fn called(alloc: Global, style: &Style, mentions: &[Mentions]) -> Result<Vec<bool>, AllocError> {
     let mut is_called = marks(alloc, mentions.len())?;
     for one in mentions {
-        for (place, is_named) in one.functions.iter().enumerate() {
-            if *is_named {
-                mark(&mut is_called, place);
-            }
+        for function in &one.functions {
+            mark(&mut is_called, *function);
         }
     }
     for command in style.commands.as_slice() {
@@ -155,12 +192,12 @@ fn common_mentions(
     alloc: Global,
     program: &Program,
     mentions: &[Mentions],
-) -> Result<Option<Vec<bool>>, AllocError> {
-    let mut shared: Option<Vec<bool>> = None;
+) -> Result<Option<Vec<usize>>, AllocError> {
+    let mut shared: Option<Vec<usize>> = None;
     for (function, one) in mentions.iter().enumerate() {
         if is_whole(program, function) {
             match &mut shared {
-                Some(shared) => common(shared, one.functions.as_slice()),
+                Some(shared) => shared.retain(|other| one.functions.binary_search(other).is_ok()),
                 None => shared = Some(Vec::from_slice(alloc, one.functions.as_slice())?),
             }
         }
@@ -177,6 +214,7 @@ impl Catalogue {
         Ok(Catalogue {
             is_called: called(alloc, style, all.as_slice())?,
             common: common_mentions(alloc, program, all.as_slice())?,
+            has_own_field: with_own_fields(alloc, style, all.as_slice())?,
             mentions: all,
         })
     }
@@ -185,9 +223,10 @@ impl Catalogue {
     fn is_like_standard(&self, function: usize) -> bool {
         match (&self.common, self.mentions.get(function)) {
             (Some(common), Some(mentions)) => {
-                let all = common.iter().filter(|b| **b).count();
-                let ours = shared_count(common.as_slice(), mentions.functions.as_slice());
-                all > 0 && ours.saturating_mul(2) >= all
+                let shared = common
+                    .iter()
+                    .filter(|one| mentions.functions.binary_search(one).is_ok());
+                !common.is_empty() && shared.count().saturating_mul(2) >= common.len()
             }
             _ => false,
         }
@@ -234,7 +273,7 @@ fn takes_from_caller(program: &Program, function: usize) -> bool {
 
 impl<'a> Checker<'a> {
     /// Whether a function that nothing calls is a type: a style without standard types may have others, and control entries
-    /// run without a fault.
+    /// run without a fault or have fields of their own.
     fn is_other_type(
         &mut self,
         catalogue: &Catalogue,
@@ -250,7 +289,11 @@ impl<'a> Checker<'a> {
         if catalogue.common.is_none() {
             return Ok(true);
         }
-        self.is_clean(function)
+        Ok(
+            self.is_clean(function)?
+                || (is_marked(catalogue.has_own_field.as_slice(), function)
+                    && !self.is_like_helper),
+        )
     }
 
     pub fn find_types(&mut self, catalogue: &Catalogue) -> Result<(), AllocError> {
@@ -305,11 +348,7 @@ impl<'a> Checker<'a> {
         let Some(mentions) = catalogue.mentions.get(function) else {
             return Ok(());
         };
-        for (other, is_named) in mentions.functions.iter().enumerate() {
-            if *is_named {
-                waiting.push(other)?;
-            }
-        }
+        waiting.extend_from_slice(mentions.functions.as_slice())?;
         if mentions.calls_type {
             self.add_types(waiting)?;
         }

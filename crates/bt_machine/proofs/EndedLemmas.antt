@@ -10,7 +10,6 @@ use Rattle.bt_actions.specs.World.{entry_in}
 use Rattle.bt_stack.specs.declared.leaving.Left.{Left}
 use Rattle.bt_stack.specs.declared.state.State.{State}
 use Rattle.bt_stack.specs.View.{world_of, left_of, entries_seen, place_seen}
-use Rattle.bt_machine.specs.declared.step.Ended.{Ended}
 use Rattle.bt_machine.specs.Step.{first_variables, finished_at, outcome_of}
 use Rattle.bt_machine.specs.inner.Ended.{outcome_left}
 use Rattle.bt_machine.specs.inner.Loop.{counts, is_stop}
@@ -20,20 +19,9 @@ first_own : (entry : Option (Bor Entry)) (own : Variables) → option_map (λ (e
 first_own None own = refl
 first_own (Some entry) own = refl
 
--- what is left of a state, beside how its run ended
-abbrev pub ended : Left → Flow → Tally → Ended
-ended left flow tally = record {
-  globals = left.globals;
-  variables = left.variables;
-  held = left.held;
-  messages = left.messages;
-  flow = flow;
-  tally = tally;
-}
-
-pub ended_outcome : (s : State) (left : Left) (flow : Flow) (tally : Tally) → left ≡ left_of (world_of s) → outcome_left (ended left flow tally) left.lines ≡ outcome_of (finished_at (world_of s) (is_stop flow) (counts tally))
+pub ended_outcome : (s : State) (left : Left) (flow : Flow) (tally : Tally) → left ≡ left_of (world_of s) → outcome_left left left.lines flow tally ≡ outcome_of (finished_at (world_of s) (is_stop flow) (counts tally))
 ended_outcome s left flow tally is =
-    (λ j. outcome_left (ended (is j) flow tally) (is j).lines)
+    (λ j. outcome_left (is j) (is j).lines flow tally)
     ∙ (λ j. record {
       globals = s.stack.globals;
       variables = first_own s.entry s.stack.own j;

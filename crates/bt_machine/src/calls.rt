@@ -1,15 +1,16 @@
 //! Calls of names, and the built-in functions that run others: `call.type$`, `if$` and `while$`. A function runs after
 //! the call has put it before what is left to do.
 
-ghost use Rattle.std.specs.Prelude.{◌≡◌, ◌+◌, ◌≤◌, length, bytes_eq, codes, position, IsTrue, IfOk, OnOk};
+ghost use Rattle.std.specs.Prelude.{◌≡◌, ◌+◌, ◌≤◌, List, length, bytes_eq, codes, position, IsTrue, IfOk, OnOk};
 ghost use Rattle.std.specs.Option.{option_or};
 ghost use Rattle.bt_style.specs.Program.{Program, program_of};
 ghost use Rattle.bt_style.specs.Tree.{ops_body};
 ghost use Rattle.bt_style.specs.declared.builtin.Builtin.TheVariants as builtin;
 ghost use Rattle.bt_actions.specs.Actions.{basic};
 ghost use Rattle.bt_actions.specs.World.{World};
-ghost use Rattle.bt_machine.specs.Eval.{Counts, Runner, acted, eval, called, built_in, function_body, default_type};
-ghost use Rattle.bt_machine.specs.inner.Loop.{LeadsTo, Means};
+ghost use Rattle.bt_machine.specs.Eval.{Counts, Runner, acted, eval, called, built_in, function_body, default_type, then_go};
+ghost use Rattle.bt_machine.specs.declared.control.Frame.{Frame as HeldFrame};
+ghost use Rattle.bt_machine.specs.inner.Loop.{LeadsTo, Means, followed, left, run_ended, whole};
 
 use crate::control::{Frame, begin, begin_loop, keep};
 use bt_actions::{Code, Complaint, Entry, Flow};
@@ -23,10 +24,22 @@ use std::alloc::{AllocError, Global};
 /// What comes after an element.
 #[derive(Clone, Copy)]
 pub enum Next<'a> {
-    /// The rest of its body, or the end of the run.
-    Flow(Flow),
-    /// This body; the rest of the element's waits.
+    /// The end of the run.
+    Stop,
+    /// These elements: the rest of its body, or another body, for which the rest waits.
     Body(&'a [Op]),
+}
+
+/// What comes after an element that runs no other function.
+#[inline(always)]
+pub fn next_after<'a>(flow: Flow, rest: &'a [Op]) -> Next<'a>
+    ensures { (p : Program) (fs : List HeldFrame) (w : World) (k : Counts) →
+        followed p result fs w k ≡ then_go (run_ended flow w k) (left p (whole rest.now fs)) }
+{
+    match flow {
+        Flow::Go => Next::Body(rest),
+        Flow::Stop => Next::Stop,
+    }
 }
 
 #[cold]
@@ -70,7 +83,7 @@ fn enter<'a>(
 {
     let body = function_body(style, n);
     if body.is_empty() {
-        return Ok(Next::Flow(Flow::Go));
+        return Ok(Next::Body(rest));
     }
     keep(control, rest)?;
     Ok(Next::Body(body))
@@ -90,10 +103,10 @@ fn call_type<'a>(
     match state.entry {
         None => {
             state.tell(Complaint::NoEntry)?;
-            Ok(Next::Flow(Flow::Go))
+            Ok(Next::Body(rest))
         }
         Some(entry) => match type_function(entry, style) {
-            None => Ok(Next::Flow(Flow::Go)),
+            None => Ok(Next::Body(rest)),
             Some(n) => {
                 let next = enter(control, style, n, rest)?;
                 Ok(next)
@@ -113,7 +126,7 @@ fn choose<'a>(
     ensures more { OnOk result (length control.new.items ≤ length control.old.items + 4) }
 {
     match take_choice(state)? {
-        None => Ok(Next::Flow(Flow::Go)),
+        None => Ok(Next::Body(rest)),
         Some(code) => {
             let body = begin(control, rest, code)?;
             Ok(Next::Body(body))
@@ -132,7 +145,7 @@ fn repeat<'a>(
     ensures more { OnOk result (length control.new.items ≤ length control.old.items + 4) }
 {
     match take_loop(state)? {
-        None => Ok(Next::Flow(Flow::Go)),
+        None => Ok(Next::Body(rest)),
         Some((test, body)) => {
             let first = begin_loop(control, rest, test, body)?;
             Ok(Next::Body(first))
@@ -180,7 +193,7 @@ fn call_any<'a>(
             let next = repeat(state, control, rest)?;
             Ok(next)
         }
-        _ => Ok(Next::Flow(call_basic(state, alloc, style, builtin)?)),
+        _ => Ok(next_after(call_basic(state, alloc, style, builtin)?, rest)),
     }
 }
 
@@ -200,7 +213,7 @@ fn call_builtin<'a>(
 {
     if is_basic(builtin) {
         let flow = call_basic(state, alloc, style, builtin)?;
-        Ok(Next::Flow(flow))
+        Ok(next_after(flow, rest))
     } else {
         let next = call_any(state, control, alloc, style, builtin, rest)?;
         Ok(next)
@@ -225,11 +238,11 @@ pub fn call<'a>(
             let next = call_builtin(state, control, alloc, style, builtin, rest)?;
             Ok(next)
         }
-        Target::Field(n) => Ok(Next::Flow(call_field(state, n)?)),
-        Target::EntryNumber(n) => Ok(Next::Flow(call_entry_number(state, n)?)),
-        Target::EntryText(n) => Ok(Next::Flow(call_entry_text(state, n)?)),
-        Target::GlobalNumber(n) => Ok(Next::Flow(call_global_number(state, n)?)),
-        Target::GlobalText(n) => Ok(Next::Flow(call_global_text(state, n)?)),
+        Target::Field(n) => Ok(next_after(call_field(state, n)?, rest)),
+        Target::EntryNumber(n) => Ok(next_after(call_entry_number(state, n)?, rest)),
+        Target::EntryText(n) => Ok(next_after(call_entry_text(state, n)?, rest)),
+        Target::GlobalNumber(n) => Ok(next_after(call_global_number(state, n)?, rest)),
+        Target::GlobalText(n) => Ok(next_after(call_global_text(state, n)?, rest)),
         Target::Function(n) => {
             let next = enter(control, style, n, rest)?;
             Ok(next)

@@ -18,7 +18,7 @@ ghost use Rattle.bt_stack.specs.View.{world_of};
 ghost use Rattle.bt_machine.specs.Eval.{eval, act, builtin_called, by_sign};
 ghost use Rattle.bt_machine.specs.inner.Loop.{Run, ComesTo, SameLeft, putting, whole};
 
-use crate::calls::Next;
+use crate::calls::{Next, next_after};
 use crate::control::{Frame, begin, called_by};
 use bt_actions::{Code, STACK_LIMIT, Tally};
 use bt_stack::{State, assign_value};
@@ -159,7 +159,7 @@ pub fn put_block<'a>(
             let body = choose_at_once(state, control, tally, first, above, other, after)?;
             Ok(Next::Body(body))
         }
-        None => Ok(Next::Flow(state.push_block(above)?)),
+        None => Ok(next_after(state.push_block(above)?, rest)),
     }
 }
 
@@ -201,7 +201,7 @@ fn put_quoted<'a>(
             let body = choose_at_once(state, control, tally, first, above, other, after)?;
             Ok(Next::Body(body))
         }
-        None => Ok(Next::Flow(state.push_name(name)?)),
+        None => Ok(next_after(state.push_name(name)?, rest)),
     }
 }
 

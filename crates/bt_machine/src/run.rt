@@ -20,7 +20,7 @@ ghost use Rattle.bt_machine.specs.Eval.{eval};
 ghost use Rattle.bt_machine.specs.inner.Cases.{counts_begun};
 ghost use Rattle.bt_machine.specs.inner.Loop.{counts, run_ended, ComesTo, IsCalled, is_above, op_run};
 
-use crate::calls::{Next, call, call_quoted};
+use crate::calls::{Next, call, call_quoted, next_after};
 use crate::control::{Due, Frame, begin, begin_loop, builtin_of, called_by, next_due};
 use crate::idioms::{put_block, put_name};
 use bt_actions::{Code, Complaint, Flow, Tally};
@@ -64,8 +64,8 @@ fn carry_out<'a>(
     ensures more { OnOk result (length control.new.items ≤ length control.old.items + 4) }
 {
     match op {
-        Op::Number(n) => Ok(Next::Flow(state.push_number(*n)?)),
-        Op::Text(text) => Ok(Next::Flow(state.push_given(text.as_slice())?)),
+        Op::Number(n) => Ok(next_after(state.push_number(*n)?, rest)),
+        Op::Text(text) => Ok(next_after(state.push_given(text.as_slice())?, rest)),
         Op::Quote(target) => {
             let next = put_name(state, control, tally, op, *target, rest)?;
             Ok(next)
@@ -101,11 +101,9 @@ fn call_due<'a>(
         return Ok(None);
     }
     tally.take(builtin_of(name));
-    match call_quoted(state, control, alloc, style, name, rest)? {
-        Next::Flow(flow) => match flow {
-            Flow::Go => Ok(Some(rest)),
-            Flow::Stop => Ok(None),
-        },
+    let next = call_quoted(state, control, alloc, style, name, rest)?;
+    match next {
+        Next::Stop => Ok(None),
         Next::Body(body) => Ok(Some(body)),
     }
 }
@@ -139,10 +137,7 @@ pub fn work<'a>(
                 // The loop's measure needs this call's clause that the stack is small.
                 let _depth = state.stack.len();
                 match next {
-                    Next::Flow(flow) => match flow {
-                        Flow::Go => rest = after,
-                        Flow::Stop => return Ok((Flow::Stop, tally)),
-                    },
+                    Next::Stop => return Ok((Flow::Stop, tally)),
                     Next::Body(body) => rest = body,
                 }
             }

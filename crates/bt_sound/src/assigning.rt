@@ -9,7 +9,7 @@ ghost use Rattle.bt_sound.specs.Seen.{known_seen, knowns_seen, state_seen, state
 use crate::known::Known;
 use crate::may::May;
 use crate::reading::{entry_of, when};
-use crate::state::{KnownEntry, KnownVariables, State, on, only};
+use crate::state::{KnownEntry, KnownVariables, State, alone, on};
 use crate::stop::Stop;
 use crate::tops::{code_top, value_top};
 use bt_actions::Code;
@@ -129,7 +129,7 @@ fn double_case<'a>(
         ≡ pushing (Text may) (holding (Text may ∷ knowns_seen below.now) (state_seen state.now))) }
 {
     let stack = on(alloc, Known::Text(may), below)?;
-    let state = state.with_stack(alloc, stack.as_slice())?;
+    let state = state.holding(stack)?;
     state.pushed(alloc, Known::Text(may))
 }
 
@@ -185,11 +185,13 @@ pub fn doubled<'a>(alloc: Global, state: &State<'a>) -> Result<Vec<State<'a>>, S
             Ok(states)
         }
         Known::Number(range) => {
-            let states = only(alloc, &state.pushed(alloc, Known::Number(range))?)?;
+            let after = state.pushed(alloc, Known::Number(range))?;
+            let states = alone(alloc, after)?;
             Ok(states)
         }
         Known::Run(code) => {
-            let states = only(alloc, &state.pushed(alloc, Known::Run(code))?)?;
+            let after = state.pushed(alloc, Known::Run(code))?;
+            let states = alone(alloc, after)?;
             Ok(states)
         }
     }

@@ -16,7 +16,7 @@ use crate::may::May;
 use crate::state::{KnownEntry, KnownVariables, State};
 use crate::stop::Stop;
 use bt_style::{Action, Command, Style, Target};
-use bt_text::Sequence;
+use bt_text::{Sequence, Shared};
 use std::alloc::{AllocError, Global};
 
 /// How many fields, or variables of a kind, a style may have here: lists of them are gone over by recursion.
@@ -47,6 +47,7 @@ fn before_execute<'a>(
     ensures { IfOk result (λ state. state_seen state ≡ before_step (program_of style.now) false globals.now) }
 {
     let globals = globals.copied(alloc)?;
+    let globals = Shared::new(alloc, globals)?;
     Ok(State {
         stack: Vec::new(alloc),
         entry: None,
@@ -63,7 +64,9 @@ fn before_iterate<'a>(
     ensures { IfOk result (λ state. state_seen state ≡ before_step (program_of style.now) true globals.now) }
 {
     let globals = globals.copied(alloc)?;
+    let globals = Shared::new(alloc, globals)?;
     let entry = unknown_entry(alloc, style)?;
+    let entry = Shared::new(alloc, entry)?;
     Ok(State {
         stack: Vec::new(alloc),
         entry: Some(entry),
@@ -201,8 +204,8 @@ impl<'a> Follower<'a> {
 ///
 /// `apart` names fields and variables by which states stay apart, and `globals` says what is known of the global
 /// variables before a step. Any answer is right with any of them, but some styles are accepted only with the right ones.
-/// `work` is how many elements may be followed, each from one state: what is left of it afterwards
-/// stays in it. If it isn't enough, the style isn't accepted.
+/// `work` is how many elements may be followed, each from one state; comparing 32 pairs of states counts as much. What is
+/// left of it afterwards stays in it. If it isn't enough, the style isn't accepted.
 pub fn accepts(
     alloc: Global,
     style: &Style,

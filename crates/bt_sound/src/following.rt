@@ -52,15 +52,20 @@ struct Turn<'a> {
     ends: Vec<State<'a>>,
 }
 
-/// How many states may be followed at once: real styles need at most 200, and to join them costs the square.
+/// How many states may be followed at once: real styles need at most 200.
 const MOST_STATES: usize = 1000;
 
-/// Takes the work of so many states from what is left.
+/// How many pairs of states are compared in the time in which an element is followed from one.
+const PAIRS: u64 = 32;
+
+/// Takes the work of so many states from what is left: each is followed, and each two may be compared to join them.
 fn spend(work: &mut u64, states: usize) -> Result<(), Stop> {
     if states > MOST_STATES {
         return Err(Stop::Refused);
     }
-    match work.checked_sub(states as u64) {
+    let states = states as u64;
+    let pairs = states.saturating_mul(states) / PAIRS;
+    match work.checked_sub(states.saturating_add(pairs)) {
         Some(left) => {
             *work = left;
             Ok(())

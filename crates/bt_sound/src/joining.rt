@@ -10,10 +10,10 @@ use crate::known::Known;
 use crate::may::May;
 use crate::range::Range;
 use crate::state::{KnownEntry, KnownVariables, State};
-use crate::within::{are_knowns_within, is_covered, is_known_within};
+use crate::within::{are_knowns_within, is_covered, is_known_within, is_state_within};
 use bt_actions::Code;
 use bt_style::Target;
-use bt_text::Sequence;
+use bt_text::{Sequence, Shared};
 use std::alloc::{AllocError, Global};
 
 fn joined_ranges(
@@ -49,14 +49,14 @@ pub fn joined_variables(
 
 fn joined_entry(
     alloc: Global,
-    ours: &Option<KnownEntry>,
-    theirs: &Option<KnownEntry>,
-) -> Result<Option<KnownEntry>, AllocError> {
+    ours: &Option<Shared<KnownEntry>>,
+    theirs: &Option<Shared<KnownEntry>>,
+) -> Result<Option<Shared<KnownEntry>>, AllocError> {
     match (ours, theirs) {
         (Some(ours), Some(theirs)) => {
             let fields = joined_texts(alloc, ours.fields.as_slice(), theirs.fields.as_slice())?;
             let variables = joined_variables(alloc, &ours.variables, &theirs.variables)?;
-            Ok(Some(KnownEntry { fields, variables }))
+            Ok(Some(Shared::new(alloc, KnownEntry { fields, variables })?))
         }
         _ => Ok(None),
     }
@@ -91,6 +91,7 @@ fn joined<'a>(
     let stack = joined_stack(alloc, ours.stack.as_slice(), theirs.stack.as_slice())?;
     let entry = joined_entry(alloc, &ours.entry, &theirs.entry)?;
     let globals = joined_variables(alloc, &ours.globals, &theirs.globals)?;
+    let globals = Shared::new(alloc, globals)?;
     Ok(State {
         stack,
         entry,
@@ -171,7 +172,9 @@ fn put_in<'a>(
     match place {
         Some(place) => {
             if let Some(known) = states.get_mut(place) {
-                *known = joined(alloc, known, state)?;
+                if !is_state_within(state, known) {
+                    *known = joined(alloc, known, state)?;
+                }
             }
             Ok(())
         }

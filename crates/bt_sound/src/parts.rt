@@ -23,7 +23,7 @@ use crate::reading::{
     entry_text_read, field_read, global_number_read, global_text_read, own_number_read,
     own_text_read,
 };
-use crate::state::{State, only};
+use crate::state::{State, alone, only};
 use crate::stop::Stop;
 use crate::tops::{code_top, range_top};
 use crate::transfer::stack_after;
@@ -147,8 +147,8 @@ fn basic<'a>(alloc: Global, builtin: Builtin, state: &State<'a>) -> Result<Vec<S
     ensures { IfOk result (λ after. Makes (Called (targets.Builtin builtin)) (state_seen state.now) (states_seen after.items)) }
 {
     let stack = stack_of(alloc, builtin, state.stack.as_slice())?;
-    let after = state.with_stack(alloc, stack.as_slice())?;
-    let states = only(alloc, &after)?;
+    let after = state.holding(stack)?;
+    let states = alone(alloc, after)?;
     Ok(states)
 }
 
@@ -157,7 +157,7 @@ fn after_assignment<'a>(alloc: Global, state: &State<'a>) -> Result<Vec<State<'a
     ensures { IfOk result (λ after. Makes (Called (targets.Builtin builtins.Assign)) (state_seen state.now) (states_seen after.items)) }
 {
     let after = assigned(alloc, state)?;
-    let states = only(alloc, &after)?;
+    let states = alone(alloc, after)?;
     Ok(states)
 }
 
@@ -235,7 +235,7 @@ pub fn loop_of<'a>(alloc: Global, state: &State<'a>) -> Result<Loop<'a>, Stop>
     let (body, below) = code_top(state.stack.as_slice())?;
     let (test, below) = code_top(below)?;
     let rest = state.with_stack(alloc, below)?;
-    let first = only(alloc, &rest)?;
+    let first = alone(alloc, rest)?;
     Ok(Loop { test, body, first })
 }
 

@@ -96,6 +96,9 @@ fn field_before<'a>(
     ensures { IfOk result (λ states. states_seen states.items ≡ when may_be
         (pushing (Text may) (of_own (field_known n may entry.now) (state_seen state.now))) (states_seen rest.entry.items)) }
 {
+    if !may_be {
+        return Ok(rest);
+    }
     let first = field_case(alloc, state, entry, n, may)?;
     let states = when(alloc, may_be, first, rest)?;
     Ok(states)
@@ -133,6 +136,9 @@ fn own_text_before<'a>(
     ensures { IfOk result (λ states. states_seen states.items ≡ when may_be
         (pushing (Text may) (of_variables entry.now (state_seen state.now) (text_known n may entry.now.variables))) (states_seen rest.entry.items)) }
 {
+    if !may_be {
+        return Ok(rest);
+    }
     let first = own_text_case(alloc, state, entry, n, may)?;
     let states = when(alloc, may_be, first, rest)?;
     Ok(states)
@@ -170,6 +176,9 @@ fn own_number_before<'a>(
     ensures { IfOk result (λ states. states_seen states.items ≡ when may_be
         (pushing (Number range) (of_variables entry.now (state_seen state.now) (number_known n range entry.now.variables))) (states_seen rest.entry.items)) }
 {
+    if !may_be {
+        return Ok(rest);
+    }
     let first = own_number_case(alloc, state, entry, n, range)?;
     let states = when(alloc, may_be, first, rest)?;
     Ok(states)
@@ -204,6 +213,9 @@ fn global_text_before<'a>(
     ensures { IfOk result (λ states. states_seen states.items ≡ when may_be
         (pushing (Text may) (of_globals (text_known n may state.now.globals) (state_seen state.now))) (states_seen rest.entry.items)) }
 {
+    if !may_be {
+        return Ok(rest);
+    }
     let first = global_text_case(alloc, state, n, may)?;
     let states = when(alloc, may_be, first, rest)?;
     Ok(states)
@@ -238,6 +250,9 @@ fn global_number_before<'a>(
     ensures { IfOk result (λ states. states_seen states.items ≡ when may_be
         (pushing (Number range) (of_globals (number_known n range state.now.globals) (state_seen state.now))) (states_seen rest.entry.items)) }
 {
+    if !may_be {
+        return Ok(rest);
+    }
     let first = global_number_case(alloc, state, n, range)?;
     let states = when(alloc, may_be, first, rest)?;
     Ok(states)

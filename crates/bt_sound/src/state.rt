@@ -8,7 +8,7 @@ ghost use Rattle.bt_sound.specs.Seen.{known_seen, knowns_seen, state_seen, state
 use crate::known::Known;
 use crate::may::May;
 use crate::range::Range;
-use bt_text::Sequence;
+use bt_text::{Sequence, Shared};
 use std::alloc::{AllocError, Global};
 
 /// What is known of the variables of an entry, or of the global ones.
@@ -25,13 +25,13 @@ pub struct KnownEntry {
     pub variables: KnownVariables,
 }
 
-/// What is known of the world before an element.
+/// What is known of the world before an element. Most elements change the stack only, so states share the rest.
 #[derive(Drop)]
 pub struct State<'a> {
     /// The top first.
     pub stack: Vec<Known<'a>>,
-    pub entry: Option<KnownEntry>,
-    pub globals: KnownVariables,
+    pub entry: Option<Shared<KnownEntry>>,
+    pub globals: Shared<KnownVariables>,
 }
 
 fn copied_ranges(alloc: Global, ranges: &Sequence<Range>) -> Result<Sequence<Range>, AllocError>
@@ -84,14 +84,6 @@ impl KnownVariables {
 }
 
 impl KnownEntry {
-    pub fn copied(&self, alloc: Global) -> Result<KnownEntry, AllocError>
-        ensures { IfOk result (λ copy. copy ≡ self.now) }
-    {
-        let fields = copied_texts(alloc, &self.fields)?;
-        let variables = self.variables.copied(alloc)?;
-        Ok(KnownEntry { fields, variables })
-    }
-
     /// This entry, with a field that is known anew.
     pub fn with_field(&self, alloc: Global, n: usize, may: May) -> Result<KnownEntry, AllocError>
         requires { n < length self.now.fields }
@@ -116,11 +108,13 @@ impl KnownEntry {
     }
 }
 
-fn copied_entry(alloc: Global, entry: &Option<KnownEntry>) -> Result<Option<KnownEntry>, AllocError>
-    ensures { IfOk result (λ copy. copy ≡ entry.now) }
+fn shared_entry(
+    entry: &Option<Shared<KnownEntry>>,
+) -> Result<Option<Shared<KnownEntry>>, AllocError>
+    ensures { IfOk result (λ same. same ≡ entry.now) }
 {
     match entry {
-        Some(known) => Ok(Some(known.copied(alloc)?)),
+        Some(known) => Ok(Some(known.share()?)),
         None => Ok(None),
     }
 }
@@ -133,7 +127,7 @@ pub fn on<'a>(
 ) -> Result<Vec<Known<'a>>, AllocError>
     ensures { IfOk result (λ stack. stack.items ≡ known.entry ∷ below.now) }
 {
-    let mut stack = Vec::new(alloc);
+    let mut stack = Vec::with_capacity(alloc, below.len().saturating_add(1))?;
     stack.push(known)?;
     stack.extend_from_slice(below)?;
     Ok(stack)
@@ -147,17 +141,24 @@ impl<'a> State<'a> {
     }
 
     /// This state with another stack.
-    pub fn with_stack(&self, alloc: Global, stack: &[Known<'a>]) -> Result<State<'a>, AllocError>
-        ensures { IfOk result (λ state. state_seen state ≡ holding (knowns_seen stack.now) (state_seen self.now)) }
+    pub fn holding(&self, stack: Vec<Known<'a>>) -> Result<State<'a>, AllocError>
+        ensures { IfOk result (λ state. state_seen state ≡ holding (knowns_seen stack.entry.items) (state_seen self.now)) }
     {
-        let stack = Vec::from_slice(alloc, stack)?;
-        let entry = copied_entry(alloc, &self.entry)?;
-        let globals = self.globals.copied(alloc)?;
+        let entry = shared_entry(&self.entry)?;
+        let globals = self.globals.share()?;
         Ok(State {
             stack,
             entry,
             globals,
         })
+    }
+
+    /// This state with a copy of another stack.
+    pub fn with_stack(&self, alloc: Global, stack: &[Known<'a>]) -> Result<State<'a>, AllocError>
+        ensures { IfOk result (λ state. state_seen state ≡ holding (knowns_seen stack.now) (state_seen self.now)) }
+    {
+        let stack = Vec::from_slice(alloc, stack)?;
+        self.holding(stack)
     }
 
     /// This state with a value on its stack.
@@ -165,13 +166,7 @@ impl<'a> State<'a> {
         ensures { IfOk result (λ state. state_seen state ≡ pushing (known_seen known.entry) (state_seen self.now)) }
     {
         let stack = on(alloc, known, self.stack.as_slice())?;
-        let entry = copied_entry(alloc, &self.entry)?;
-        let globals = self.globals.copied(alloc)?;
-        Ok(State {
-            stack,
-            entry,
-            globals,
-        })
+        self.holding(stack)
     }
 
     /// This state with another entry.
@@ -179,7 +174,8 @@ impl<'a> State<'a> {
         ensures { IfOk result (λ state. state_seen state ≡ of_own entry (state_seen self.now)) }
     {
         let stack = Vec::from_slice(alloc, self.stack.as_slice())?;
-        let globals = self.globals.copied(alloc)?;
+        let globals = self.globals.share()?;
+        let entry = Shared::new(alloc, entry)?;
         Ok(State {
             stack,
             entry: Some(entry),
@@ -196,13 +192,23 @@ impl<'a> State<'a> {
         ensures { IfOk result (λ state. state_seen state ≡ of_globals globals (state_seen self.now)) }
     {
         let stack = Vec::from_slice(alloc, self.stack.as_slice())?;
-        let entry = copied_entry(alloc, &self.entry)?;
+        let entry = shared_entry(&self.entry)?;
+        let globals = Shared::new(alloc, globals)?;
         Ok(State {
             stack,
             entry,
             globals,
         })
     }
+}
+
+/// A state alone.
+pub fn alone<'a>(alloc: Global, state: State<'a>) -> Result<Vec<State<'a>>, AllocError>
+    ensures { IfOk result (λ states. states_seen states.items ≡ state_seen state.entry ∷ []) }
+{
+    let mut states = Vec::new(alloc);
+    states.push(state)?;
+    Ok(states)
 }
 
 /// A copy of a state alone.

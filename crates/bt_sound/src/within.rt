@@ -12,6 +12,7 @@ use crate::may::May;
 use crate::range::Range;
 use crate::state::{KnownEntry, KnownVariables, State};
 use bt_actions::Code;
+use bt_text::Shared;
 
 /// Whether both are the same quoted name. No two functions in braces count as the same.
 fn is_same_code(ours: Code, theirs: Code) -> bool
@@ -80,7 +81,7 @@ pub fn are_variables_within(ours: &KnownVariables, theirs: &KnownVariables) -> b
         && are_texts_within(ours.texts.as_slice(), theirs.texts.as_slice())
 }
 
-fn is_entry_within(ours: &Option<KnownEntry>, theirs: &Option<KnownEntry>) -> bool
+fn is_entry_within(ours: &Option<Shared<KnownEntry>>, theirs: &Option<Shared<KnownEntry>>) -> bool
     ensures { result ≡ entry_within ours.now theirs.now }
 {
     match (ours, theirs) {
@@ -94,7 +95,7 @@ fn is_entry_within(ours: &Option<KnownEntry>, theirs: &Option<KnownEntry>) -> bo
 }
 
 /// Whether each world that is as the first state says is as the second says.
-fn is_state_within(ours: &State, theirs: &State) -> bool
+pub fn is_state_within(ours: &State, theirs: &State) -> bool
     ensures { result ≡ is_within (state_seen ours.now) (state_seen theirs.now) }
 {
     are_knowns_within(ours.stack.as_slice(), theirs.stack.as_slice())

@@ -1,5 +1,5 @@
 -- What a step's state is as a world.
-use Rattle.std.specs.Prelude.{◌≡◌, ℕ, List, [], Option, map, option_map}
+use Rattle.std.specs.Prelude.{◌≡◌, ℕ, List, [], Option, Some, None, map, option_map}
 use Rattle.std.specs.Borrow.{Bor}
 use Rattle.bt_actions.specs.declared.entry.Entry.{Entry}
 use Rattle.bt_actions.specs.declared.entry.Variables.{Variables}
@@ -39,6 +39,11 @@ world_of s =
 -- the action takes the one state to the other
 abbrev pub Acts : (World → Act) → State → State → Flow → Type 0
 Acts action old new flow = act_of flow (world_of new) ≡ action (world_of old)
+
+-- the variables that stand for those of a step's entry: the entry's, or without one the style's
+abbrev pub own_begun : Option Entry → Variables → Variables
+own_begun None globals = globals
+own_begun (Some entry) globals = entry.variables
 
 -- the world before a step for an entry or for none
 abbrev pub world_begun : Option Entry → Variables → List ℕ → List ℕ → World

@@ -1,5 +1,8 @@
 //! How a step begins: with an empty stack, beside what its input has.
 
+ghost use Rattle.std.specs.Prelude.{◌≡◌};
+ghost use Rattle.bt_stack.specs.View.{own_begun};
+
 use crate::stack::Stack;
 use crate::state::State;
 use bt_actions::{Entry, Variables};
@@ -7,31 +10,36 @@ use bt_names::SoundPatterns;
 use bt_text::{Held, Sequence, Shared};
 use std::alloc::{AllocError, Global};
 
+/// The variables that stand for those of a step's entry. Without an entry they are never used.
+fn own_begun<'a>(entry: &'a Option<Entry>, globals: &'a Shared<Variables>) -> &'a Shared<Variables>
+    ensures { result.now ≡ own_begun entry.now globals.now }
+{
+    match entry {
+        None => globals,
+        Some(entry) => &entry.variables,
+    }
+}
+
 impl<'a> State<'a> {
-    ghost use Rattle.std.specs.Prelude.{◌≡◌, [], IfOk};
+    ghost use Rattle.std.specs.Prelude.{◌≡◌, [], OnOk};
     ghost use Rattle.bt_stack.specs.View.{world_of, world_begun};
 
-    /// A state in which nothing was written or reported.
-    fn with(
+    /// The state before a step for an entry or for none, with the variables of the style and the line that is held. It has
+    /// no memory of its own yet. A result that might be out of memory would be copied, with all of the state, at each step.
+    pub fn begin(
         alloc: Global,
-        stack: Stack<'a>,
-        entry: Option<&'a Entry>,
+        entry: &'a Option<Entry>,
+        globals: &'a Shared<Variables>,
         preamble: &'a [u8],
         patterns: &'a SoundPatterns,
         held: Held,
     ) -> State<'a>
-        ensures { result ≡ record {
-          stack = stack.entry;
-          entry = entry.entry;
-          preamble = preamble.entry;
-          patterns = patterns.entry;
-          held = held;
-          lines = [];
-          complaints = [];
-        } }
+        ensures { world_of result ≡ world_begun entry.now globals.now preamble.now held }
     {
+        let own = own_begun(entry, globals);
+        let entry = entry.as_ref();
         State {
-            stack,
+            stack: Stack::new(alloc, globals, own),
             entry,
             preamble,
             patterns,
@@ -41,26 +49,10 @@ impl<'a> State<'a> {
         }
     }
 
-    /// The state before a step for an entry or for none, with the variables of the style and the line that is held.
-    pub fn begin(
-        alloc: Global,
-        entry: &'a Option<Entry>,
-        globals: &'a Shared<Variables>,
-        preamble: &'a [u8],
-        patterns: &'a SoundPatterns,
-        held: Held,
-    ) -> Result<State<'a>, AllocError>
-        ensures { IfOk result (λ state. world_of state ≡ world_begun entry.now globals.now preamble.now held) }
+    /// Makes room on the stack for the values and texts of most steps.
+    pub fn make_room(&mut self) -> Result<(), AllocError>
+        ensures { OnOk result (world_of self.new ≡ world_of self.old) }
     {
-        match entry {
-            None => {
-                let stack = Stack::new(alloc, globals, globals)?;
-                Ok(State::with(alloc, stack, None, preamble, patterns, held))
-            }
-            Some(entry) => {
-                let stack = Stack::new(alloc, globals, &entry.variables)?;
-                Ok(State::with(alloc, stack, Some(entry), preamble, patterns, held))
-            }
-        }
+        self.stack.make_room()
     }
 }

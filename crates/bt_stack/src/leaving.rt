@@ -8,6 +8,7 @@ use bt_actions::messages;
 use bt_log::Message;
 use bt_text::{Bytes, Held, Sequence};
 use std::alloc::{AllocError, Global};
+use std::mem;
 
 /// The line that is held at a step's end. If nothing is held, it has no memory.
 fn trimmed(alloc: Global, held: Held) -> Held
@@ -58,23 +59,25 @@ impl<'a> State<'a> {
         }
     }
 
-    /// What was written. This function has no `?`: each would have to prove again that all parts are dropped.
-    fn into_output(self) -> (Held, Sequence<Bytes>)
-        ensures held { result.0 ≡ self.entry.held }
-        ensures lines { result.1 ≡ self.entry.lines }
+    /// What was written. This leaves nothing that is written or held.
+    fn take_output(&mut self, alloc: Global) -> (Held, Sequence<Bytes>)
+        ensures held { result.0 ≡ self.old.held }
+        ensures lines { result.1 ≡ self.old.lines }
     {
-        let State { held, lines, .. } = self;
+        let held = mem::replace(&mut self.held, Held::new(alloc));
+        let lines = mem::replace(&mut self.lines, Sequence::new(alloc));
         (held, lines)
     }
 
     /// What the step leaves. Only the values of variables that the step changed and the words of its messages are copied.
-    pub fn leave(mut self, alloc: Global) -> Result<Left, AllocError>
-        ensures { IfOk result (λ left. left ≡ left_of (world_of self.entry)) }
+    /// The state is of no use after this.
+    pub fn leave(&mut self, alloc: Global) -> Result<Left, AllocError>
+        ensures { IfOk result (λ left. left ≡ left_of (world_of self.old)) }
     {
         let messages = self.messages(alloc)?;
         let globals = self.stack.globals_left(alloc)?;
         let variables = self.own_left(alloc)?;
-        let (held, lines) = self.into_output();
+        let (held, lines) = self.take_output(alloc);
         Ok(Left {
             globals,
             variables,

@@ -46,6 +46,7 @@ fn push_empty_without_entry(state: &mut State) -> Result<Flow, AllocError>
 }
 
 /// Pushes a field of the step's entry, which may be missing.
+#[inline(always)]
 pub fn call_field(state: &mut State, n: usize) -> Result<Flow, AllocError>
     ensures { IfOk result (Acts (of_entry (field_at n) empty_item) state.old state.new) }
 {
@@ -97,6 +98,7 @@ pub fn call_global_number(state: &mut State, n: usize) -> Result<Flow, AllocErro
 }
 
 /// Pushes the value of a text variable of the style.
+#[inline(always)]
 pub fn call_global_text(state: &mut State, n: usize) -> Result<Flow, AllocError>
     ensures { IfOk result (Acts (global_text n) state.old state.new) }
 {

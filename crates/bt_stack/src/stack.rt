@@ -71,19 +71,12 @@ impl<'a> Model for Stack<'a> {
 }
 
 impl<'a> Stack<'a> {
-    /// An empty stack with the variables of the style and of an entry. It has room for the values of most steps, and for the
-    /// texts on their way into the pool, so that neither needs to grow by small steps.
-    pub fn new(
-        alloc: Global,
-        globals: &'a Shared<Variables>,
-        own: &'a Shared<Variables>,
-    ) -> Result<Self, AllocError>
-        ensures { IfOk result (λ stack. stack ≡ record { items = []; globals = globals.now; own = own.now }) }
+    /// An empty stack with the variables of the style and of an entry.
+    pub fn new(alloc: Global, globals: &'a Shared<Variables>, own: &'a Shared<Variables>) -> Self
+        ensures { result ≡ record { items = []; globals = globals.now; own = own.now } }
     {
-        let values = Vec::with_capacity(alloc, FIRST_VALUES)?;
-        let scratch = Vec::with_capacity(alloc, FIRST_BYTES)?;
-        Ok(Stack {
-            values,
+        Stack {
+            values: Vec::new(alloc),
             globals: StepVariables {
                 given: globals,
                 numbers: Vec::new(alloc),
@@ -95,9 +88,18 @@ impl<'a> Stack<'a> {
                 texts: Vec::new(alloc),
             },
             pool: Vec::new(alloc),
-            scratch,
+            scratch: Vec::new(alloc),
             sweep_at: 0,
-        })
+        }
+    }
+
+    /// Makes room for the values of most steps, and for the texts on their way into the pool, so that neither needs to grow
+    /// by small steps.
+    pub fn make_room(&mut self) -> Result<(), AllocError>
+        ensures { self.new ≡ self.old }
+    {
+        self.values.reserve(FIRST_VALUES)?;
+        self.scratch.reserve(FIRST_BYTES)
     }
 
     /// How many values there are.

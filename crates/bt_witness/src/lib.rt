@@ -1,6 +1,7 @@
 //! Entries that trigger a style's faults: each was run, and the run gave the fault's message.
 #![tactic(auto)]
 
+mod cost;
 mod filling;
 mod witness;
 

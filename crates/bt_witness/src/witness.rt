@@ -1,6 +1,7 @@
 //! Searches for an entry that triggers a fault: the machine runs the style on candidates, and an entry counts only if the
 //! run gives the message.
 
+use crate::cost::{MOST_COST, PROBES, cost};
 use crate::filling::{Filling, Rest, entry};
 use bt_check::{Fault, FaultKind};
 use bt_front::run;
@@ -234,18 +235,18 @@ impl<'a> Hunt<'a> {
         Ok(())
     }
 
-    fn aux(&self) -> Result<Bytes, AllocError> {
+    fn aux(&self, candidates: &[Candidate]) -> Result<Bytes, AllocError> {
         let mut aux = Bytes::new(self.alloc);
-        for candidate in &self.candidates {
+        for candidate in candidates {
             aux.append_all(&[b"\\citation{", candidate.key.as_slice(), b"}\n"])?;
         }
         aux.append(b"\\citation{parent}\n\\bibdata{x}\n\\bibstyle{s}\n")?;
         Ok(aux)
     }
 
-    fn database(&self) -> Result<Bytes, AllocError> {
+    fn database(&self, candidates: &[Candidate]) -> Result<Bytes, AllocError> {
         let mut database = Bytes::new(self.alloc);
-        for candidate in &self.candidates {
+        for candidate in candidates {
             database.append_all(&[candidate.written.as_slice(), b"\n"])?;
         }
         database.append(PARENT)?;
@@ -259,16 +260,16 @@ impl<'a> Hunt<'a> {
         })
     }
 
-    fn files(&self) -> Result<Vec<File>, AllocError> {
+    fn files(&self, candidates: &[Candidate]) -> Result<Vec<File>, AllocError> {
         let mut files = Vec::new(self.alloc);
-        files.push(self.file(b"j.aux", self.aux()?.as_slice())?)?;
-        files.push(self.file(b"x.bib", self.database()?.as_slice())?)?;
+        files.push(self.file(b"j.aux", self.aux(candidates)?.as_slice())?)?;
+        files.push(self.file(b"x.bib", self.database(candidates)?.as_slice())?)?;
         files.push(self.file(b"s.bst", self.text)?)?;
         Ok(files)
     }
 
-    fn run(&self) -> Result<Answers, AllocError> {
-        let files = self.files()?;
+    fn run(&self, candidates: &[Candidate]) -> Result<Answers, AllocError> {
+        let files = self.files(candidates)?;
         run(self.alloc, files.as_slice(), b"j", 2)
     }
 
@@ -308,13 +309,33 @@ impl<'a> Hunt<'a> {
         Ok(())
     }
 
-    fn search(&mut self, search: Search) -> Result<(), AllocError> {
+    /// Runs the first candidates, and notes what they trigger if they cost too much for a run of all.
+    fn is_costly(&mut self, count: usize) -> Result<bool, AllocError> {
+        let Some(first) = self.candidates.get(..count) else {
+            return Ok(false);
+        };
+        let run = self.run(first)?;
+        if cost(&run) <= MOST_COST.saturating_mul(count) {
+            return Ok(false);
+        }
+        self.note_all(run.messages.as_slice())?;
+        Ok(true)
+    }
+
+    /// Runs the candidates of a search, and says whether that was cheap enough for another search.
+    fn search(&mut self, search: Search) -> Result<bool, AllocError> {
         self.fill(search)?;
         if self.candidates.is_empty() {
-            return Ok(());
+            return Ok(true);
         }
-        let run = self.run()?;
-        self.note_all(run.messages.as_slice())
+        for count in PROBES {
+            if self.is_costly(count)? {
+                return Ok(false);
+            }
+        }
+        let run = self.run(self.candidates.as_slice())?;
+        self.note_all(run.messages.as_slice())?;
+        Ok(true)
     }
 }
 
@@ -340,9 +361,9 @@ pub fn witnesses(
         candidates: Vec::new(alloc),
         found,
     };
-    hunt.search(Search::Short)?;
-    if effort == Effort::Thorough {
-        hunt.search(Search::Long)?;
+    let is_cheap = hunt.search(Search::Short)?;
+    if is_cheap && effort == Effort::Thorough {
+        let _ = hunt.search(Search::Long)?;
     }
     Ok(hunt.found)
 }

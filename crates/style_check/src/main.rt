@@ -8,20 +8,19 @@ mod report;
 use crate::options::{Format, Options, Request, parse};
 use crate::report::{Checked, UNKNOWN};
 use bt_check::{FaultKind, check, lint};
-use bt_search::words;
+use bt_search::{read, words};
 use bt_sound::is_sound;
 use bt_style::{Style, StyleRefusal, read_style};
 use bt_text::Bytes;
 use bt_witness::{Effort, witnesses};
 use std::alloc::{AllocError, Global};
-use std::fs;
-use std::io::{Read, Write};
+use std::io::Write;
 use std::process::ExitCode;
 
 /// How many steps the analysis of a style may take: most styles take less than a tenth of them.
 const WORK: u64 = 2_000_000;
 
-/// How much work the proof that a style is sound may take: about a second. Most styles take less than a fifth of it.
+/// How much work the proof that a style is sound may take: half a second. Most styles take less than a fifth of it.
 const PROOF_WORK: u64 = 1_000_000;
 
 const VERSION: &str = "0.9.0";
@@ -41,13 +40,6 @@ a style, such as plain.bst.
 Exit status: 0 if nothing was found, 1 for findings of --lint alone, 2 for faults, 3 if a style
 can't be read or the analysis gave up, or if the command line is wrong. That a style is accepted
 is proved. That no fault was found isn't a proof.";
-
-fn read_file(rt: &HostRuntime, path: &str) -> Option<Bytes> {
-    let mut file = fs::open(rt, path).ok()?;
-    let mut bytes = Vec::new(rt.alloc());
-    file.read_to_end(&mut bytes).ok()?;
-    Some(Bytes::from_vec(bytes))
-}
 
 /// What is printed of a style, and its exit status.
 type Printed = (Bytes, u8);
@@ -79,7 +71,8 @@ fn check_style<'a>(
         findings.faults.as_slice(),
         Effort::Thorough,
     )?;
-    let is_sound = witnesses.iter().all(|witness| witness.is_none())
+    let is_sound = !findings.gave_up
+        && witnesses.iter().all(|witness| witness.is_none())
         && is_sound(alloc, style, findings.types.as_slice(), PROOF_WORK)?;
     if is_sound {
         findings.faults.retain(|fault| !is_excluded(fault.kind));
@@ -147,13 +140,16 @@ fn print_text(
 }
 
 fn check_file(rt: &HostRuntime, path: &str, options: Options) -> Result<u8, AllocError> {
-    let Some(text) = read_file(rt, path) else {
+    let Some(text) = read(rt.alloc(), rt, path)? else {
         let _ = eprintln!(rt; "bibtex-check: can't read {path}");
         return Ok(UNKNOWN);
     };
     let (printed, status) = print_text(rt.alloc(), path, text.as_slice(), options)?;
     let mut out = rt.stdout();
-    let _ = out.write_all(printed.as_slice());
+    if out.write_all(printed.as_slice()).is_err() {
+        let _ = eprintln!(rt; "bibtex-check: can't write the report on {path}");
+        return Ok(UNKNOWN);
+    }
     Ok(status)
 }
 

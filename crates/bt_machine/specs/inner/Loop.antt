@@ -88,20 +88,20 @@ whole ops control = Run (Block (ops_body ops)) ∷ kept control
 abbrev pub call_left : Target → List Op → List HeldFrame → List Frame
 call_left name ops control = Run (Block (Then (Called name) End)) ∷ whole ops control
 
--- what comes after an element, with the rest of its body and what waits
-abbrev pub followed : Program → List Op → Next → List HeldFrame → World → Counts → Ending
-followed p rest (next.Flow flow) fs w k = then_go (run_ended flow w k) (left p (whole rest fs))
-followed p rest (next.Body ops) fs w k = left p (whole ops.now fs) w k
+-- what comes after an element, with what waits
+abbrev pub followed : Program → Next → List HeldFrame → World → Counts → Ending
+followed p next.Stop fs w k = Stopped w k
+followed p (next.Body ops) fs w k = left p (whole ops.now fs) w k
 
 -- what follows in the new state comes to the same as this run in the old one, and then what was left
 abbrev pub LeadsTo : Program → State → State → (World → Counts → Ending) → List Op → List HeldFrame → Next → List HeldFrame → Type 0
 LeadsTo p old new run rest fs next fs' =
-    (k : Counts) → followed p rest next fs' (world_of new) k ≡ then_go (run (world_of old) k) (left p (whole rest fs))
+    (k : Counts) → followed p next fs' (world_of new) k ≡ then_go (run (world_of old) k) (left p (whole rest fs))
 
 -- the same from these ticks and calls, of which more may have gone
 abbrev pub ComesTo : Program → State → Tally → State → Tally → (World → Counts → Ending) → List Op → List HeldFrame → Next → List HeldFrame → Type 0
 ComesTo p old before new after run rest fs next fs' =
-    followed p rest next fs' (world_of new) (counts after) ≡ then_go (run (world_of old) (counts before)) (left p (whole rest fs))
+    followed p next fs' (world_of new) (counts after) ≡ then_go (run (world_of old) (counts before)) (left p (whole rest fs))
 
 -- what an element of a body does
 abbrev pub op_run : Program → Op → World → Counts → Ending
@@ -118,7 +118,7 @@ IsCalled p old before new after name rest fs (Some body) fs' =
 -- what follows is this run, and then what was left
 abbrev pub Means : Program → (World → Counts → Ending) → List Op → List HeldFrame → Next → List HeldFrame → Type 0
 Means p run rest fs next fs' =
-    (w : World) (k : Counts) → followed p rest next fs' w k ≡ then_go (run w k) (left p (whole rest fs))
+    (w : World) (k : Counts) → followed p next fs' w k ≡ then_go (run w k) (left p (whole rest fs))
 
 -- two lists of what is left to do come to the same
 abbrev pub SameLeft : List Frame → List Frame → Type 0

@@ -1,7 +1,6 @@
 use Rattle.std.proofs.Common.{[], ◌∷◌, ◌∙◌, ap, sym, refl, subst}
 use Rattle.bt_style.specs.Program.{program_of}
 use Rattle.bt_style.specs.Tree.{End, Then, Called, element_of}
-use Rattle.bt_actions.specs.declared.flow.Flow.TheVariants.{Go, Stop}
 use Rattle.bt_actions.specs.Item.{Name}
 use Rattle.bt_actions.specs.Tally.{with_call}
 use Rattle.bt_actions.specs.View.{code_seen}
@@ -64,19 +63,6 @@ returns-then-tally-eq0 c =
     let is_due = due_element c.in-Some.op.now c.work.rest.now c.in-Some.after.now c.work.control.items c.in-Some.ensures.cases.0 in
     no_tick_leads p element left_before left_now (world_of c.work.state) (world_of c.tell_no_tick.new.state) (counts c.work.tally) end c.work.invariant is_due c.if-tally-eq0.true c.in_ok-tell_no_tick-in-Some.ensures
 
-pub work-preserved-in-Go : goal.work-preserved-in-Go
-work-preserved-in-Go c =
-    let p = program_of c.args.style.now in
-    let end = eval p (Then (Called c.args.first) End) (world_of c.args.state.now) counts_begun in
-    let left_before = whole c.work.rest.now c.work.control.items in
-    let left_now = whole c.in-Some.after.now c.work.control.items in
-    let element = element_of c.in-Some.op.now in
-    let is_due = due_element c.in-Some.op.now c.work.rest.now c.in-Some.after.now c.work.control.items c.in-Some.ensures.cases.0 in
-    let calls = c.take.ensures.calls ∙ ap (λ b. with_call b c.work.tally.calls) c.called_by.ensures in
-    let follows : Next → Ending = λ next. followed p c.in-Some.after.now next c.carry_out.new.control.items (world_of c.carry_out.new.state) (counts c.carry_out.new.tally) in
-    let did = ap follows (sym (c.in-Flow.is ∙ ap next.Flow c.in-Go.is)) ∙ c.in_ok-next-in-Some.ensures.leads in
-    element_leads p element left_before left_now (world_of c.work.state) (counts c.work.tally) (counts c.take.new.self) (follows (next.Flow Go)) end c.work.invariant is_due c.take.ensures.ticks calls did
-
 pub returns-in-Stop : goal.returns-in-Stop
 returns-in-Stop c =
     let p = program_of c.args.style.now in
@@ -86,9 +72,9 @@ returns-in-Stop c =
     let element = element_of c.in-Some.op.now in
     let is_due = due_element c.in-Some.op.now c.work.rest.now c.in-Some.after.now c.work.control.items c.in-Some.ensures.cases.0 in
     let calls = c.take.ensures.calls ∙ ap (λ b. with_call b c.work.tally.calls) c.called_by.ensures in
-    let follows : Next → Ending = λ next. followed p c.in-Some.after.now next c.carry_out.new.control.items (world_of c.carry_out.new.state) (counts c.carry_out.new.tally) in
-    let did = ap follows (sym (c.in-Flow.is ∙ ap next.Flow c.in-Stop.is)) ∙ c.in_ok-next-in-Some.ensures.leads in
-    element_leads p element left_before left_now (world_of c.work.state) (counts c.work.tally) (counts c.take.new.self) (follows (next.Flow Stop)) end c.work.invariant is_due c.take.ensures.ticks calls did
+    let follows : Next → Ending = λ next. followed p next c.carry_out.new.control.items (world_of c.carry_out.new.state) (counts c.carry_out.new.tally) in
+    let did = ap follows (sym c.in-Stop.is) ∙ c.in_ok-next-in-Some.ensures.leads in
+    element_leads p element left_before left_now (world_of c.work.state) (counts c.work.tally) (counts c.take.new.self) (follows next.Stop) end c.work.invariant is_due c.take.ensures.ticks calls did
 
 pub work-preserved-in-Body : goal.work-preserved-in-Body
 work-preserved-in-Body c =
@@ -99,7 +85,7 @@ work-preserved-in-Body c =
     let element = element_of c.in-Some.op.now in
     let is_due = due_element c.in-Some.op.now c.work.rest.now c.in-Some.after.now c.work.control.items c.in-Some.ensures.cases.0 in
     let calls = c.take.ensures.calls ∙ ap (λ b. with_call b c.work.tally.calls) c.called_by.ensures in
-    let follows : Next → Ending = λ next. followed p c.in-Some.after.now next c.carry_out.new.control.items (world_of c.carry_out.new.state) (counts c.carry_out.new.tally) in
+    let follows : Next → Ending = λ next. followed p next c.carry_out.new.control.items (world_of c.carry_out.new.state) (counts c.carry_out.new.tally) in
     let did = ap follows (sym (c.in-Body.is)) ∙ c.in_ok-next-in-Some.ensures.leads in
     element_leads p element left_before left_now (world_of c.work.state) (counts c.work.tally) (counts c.take.new.self) (follows (next.Body c.in-Body.body)) end c.work.invariant is_due c.take.ensures.ticks calls did
 
