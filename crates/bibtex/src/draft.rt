@@ -4,10 +4,9 @@ ghost use Rattle.std.specs.Prelude.{◌≡◌, Ok, IfOk, OnErr};
 
 use crate::edit::{Edit, Refusal};
 use crate::refusal::is_root_name;
-use crate::reread::Reread;
+use crate::reread::NothingRead;
 use crate::state::State;
 use bt_job::{AuxTexts, read_citations};
-use bt_run::Readings;
 use bt_text::{Bytes, Sequence, Shared};
 use std::alloc::{AllocError, Global};
 use std::marker::Model;
@@ -60,9 +59,7 @@ impl Draft {
         ensures refused { IsAnswer (applied (edit_of edit.entry) self.old) result }
         ensures err { OnErr result (self.new ≡ self.old) }
     {
-        let nothing = Readings::nothing(self.alloc);
-        let mut reread = Reread::of(self.alloc, &nothing);
-        let state = self.state.after(edit, &mut reread)?;
+        let state = self.state.after(self.alloc, edit, &mut NothingRead)?;
         self.state = state;
         Ok(())
     }

@@ -10,7 +10,7 @@ use crate::reread::Reread;
 use crate::state::State;
 use bt_job::text_of;
 use bt_log::Message;
-use bt_run::{Answers, Kept, Readings, Report, Run, answers_after};
+use bt_run::{Kept, Readings, Report, Run, answers_after};
 use bt_text::Bytes;
 use std::alloc::{AllocError, Global};
 use std::marker::Model;
@@ -22,9 +22,7 @@ use std::mem;
 pub struct Session {
     alloc: Global,
     state: State,
-    answers: Answers,
-    kept: Kept,
-    readings: Readings,
+    run: Run,
 }
 
 impl Model for Session {
@@ -36,16 +34,17 @@ impl Model for Session {
 
     ghost view = { λ s. s.state };
 
-    ghost invariant = { λ s. Keeps s.state (meaning_of s.answers) s.kept.text s.kept.steps };
+    ghost invariant = { λ s. Keeps s.state (meaning_of s.run.answers) s.run.kept.text s.run.kept.steps };
 }
 
 impl Session {
-    ghost use Rattle.bibtex.specs.Present.{is_root_name, no_texts, shown, reported, EachOnce};
+    ghost use Rattle.bibtex.specs.Present.{is_root_name, no_texts, shown, reported, EachOnce, Keeps};
     ghost use Rattle.bibtex.specs.Edit.{edit_of};
     ghost use Rattle.bibtex.specs.Applied.{applied, refusal_of, IsAnswer, IsNew};
     ghost use Rattle.bt_job.specs.FileNames.{text_of};
     ghost use Rattle.bt_log.specs.Log.{log_bytes};
     ghost use Rattle.bt_run.specs.Meaning.{trace};
+    ghost use Rattle.bt_run.specs.Shown.{meaning_of};
     ghost use Rattle.bibtex.specs.EntryText.{entry_text};
 
     /// A session without files, whose run begins at the root name followed by `.aux`. The errors are `BadName`, exactly if
@@ -65,12 +64,7 @@ impl Session {
             alloc,
             state: first,
         } = draft;
-        let Run {
-            answers,
-            kept,
-            readings,
-            ..
-        } = answers_after(
+        let run = answers_after(
             alloc,
             first.texts.as_slice(),
             first.root.as_slice(),
@@ -81,9 +75,7 @@ impl Session {
         Ok(Session {
             alloc,
             state: first,
-            answers,
-            kept,
-            readings,
+            run,
         })
     }
 
@@ -95,11 +87,26 @@ impl Session {
         self.state.refusal(edit, size)
     }
 
-    /// Moves what READ found before to other readings. An edit that fails leaves the session without it.
-    fn move_resolution(&mut self, readings: &mut Readings)
+    /// Moves what READ found before to these readings. An edit that fails leaves the session without it.
+    fn with_resolution(&mut self, readings: Readings) -> Readings
         ensures { self.new ≡ self.old }
     {
-        readings.resolution = mem::replace(&mut self.readings.resolution, None);
+        let mut readings = readings;
+        let kept = mem::replace(&mut self.run.readings.resolution, None);
+        drop(mem::replace(&mut readings.resolution, kept));
+        readings
+    }
+
+    /// Replaces the state and everything that it means, and returns the run's report.
+    fn replace(&mut self, state: State, run: Run) -> Report
+        requires { Keeps state (meaning_of run.answers) run.kept.text run.kept.steps }
+        ensures state { self.new ≡ state }
+        ensures report { result ≡ run.report }
+    {
+        let report = run.report;
+        drop(mem::replace(&mut self.run, run));
+        drop(mem::replace(&mut self.state, state));
+        report
     }
 
     /// Goes to a state, using what was read before: everything that the state means is made beside what is kept, and then
@@ -112,26 +119,16 @@ impl Session {
         ensures refused { IfErr result (λ refusal. refusal ≡ Refusal.OutOfMemory) }
         ensures err { OnErr result (self.new ≡ self.old) }
     {
-        let mut readings = readings;
-        self.move_resolution(&mut readings);
-        let Run {
-            answers,
-            kept,
-            readings,
-            report,
-        } = answers_after(
+        let readings = self.with_resolution(readings);
+        let run = answers_after(
             self.alloc,
             state.texts.as_slice(),
             state.root.as_slice(),
             state.min,
-            &self.kept,
+            &self.run.kept,
             readings,
         )?;
-        self.state = state;
-        self.answers = answers;
-        self.kept = kept;
-        self.readings = readings;
-        Ok(report)
+        Ok(self.replace(state, run))
     }
 
     /// Makes an edit and reports its work: how many steps ran, how many were reused from the run before, and what the former
@@ -142,9 +139,9 @@ impl Session {
         ensures refused { IsAnswer (applied (edit_of edit.entry) self.old) result }
         ensures err { OnErr result (self.new ≡ self.old) }
     {
-        let mut reread = Reread::of(self.alloc, &self.readings);
-        let state = self.state.after(edit, &mut reread)?;
-        let readings = reread.readings()?;
+        let mut reread = Reread::of(&self.run.readings);
+        let state = self.state.after(self.alloc, edit, &mut reread)?;
+        let readings = reread.readings(self.alloc)?;
         self.go_to(state, readings)
     }
 
@@ -152,21 +149,21 @@ impl Session {
     pub fn bbl(&self) -> &[u8]
         ensures { result.now ≡ (shown self.now).bbl }
     {
-        self.answers.bbl.as_slice()
+        self.run.answers.bbl.as_slice()
     }
 
     /// The bytes of the `.blg` file, the log.
     pub fn blg(&self) -> &[u8]
         ensures { result.now ≡ (shown self.now).blg }
     {
-        self.answers.blg.as_slice()
+        self.run.answers.blg.as_slice()
     }
 
     /// The log without the lines of files and the counts of calls.
     pub fn terse(&self) -> &[u8]
         ensures { result.now ≡ (shown self.now).terse }
     {
-        self.answers.terse.as_slice()
+        self.run.answers.terse.as_slice()
     }
 
     /// The messages of the log in their parts, in order: what each counts as, what it says, the key of its entry, where
@@ -176,21 +173,21 @@ impl Session {
         ensures meaning { result.now ≡ (shown self.now).messages }
         ensures log { (shown self.now).blg ≡ log_bytes result.now }
     {
-        self.answers.messages.as_slice()
+        self.run.answers.messages.as_slice()
     }
 
     /// 0 for a clean run, 1 after warnings, 2 after errors, 3 after a fatal error.
     pub fn status(&self) -> u8
         ensures { result ≡ (shown self.now).status }
     {
-        self.answers.status
+        self.run.answers.status
     }
 
     /// The names of the files that were looked for and not found, in order, each once.
     pub fn wanted(&self) -> &[Bytes]
         ensures { result.now ≡ (shown self.now).wanted }
     {
-        self.answers.wanted.as_slice()
+        self.run.answers.wanted.as_slice()
     }
 
     /// What the entry of a key prints in the present run, in the paper's own style: the lines that the steps for this key
@@ -198,19 +195,19 @@ impl Session {
     pub fn entry_text(&self, key: &[u8]) -> Result<Bytes, AllocError>
         ensures { IfOk result (λ text. text ≡ entry_text key.now (trace self.now.texts self.now.root self.now.min)) }
     {
-        entry_text(self.alloc, self.kept.steps.as_slice(), key)
+        entry_text(self.alloc, self.run.kept.steps.as_slice(), key)
     }
 
     /// The steps of the run.
     pub fn kept(&self) -> &Kept
         ensures { result.now.steps ≡ trace self.now.texts self.now.root self.now.min }
     {
-        &self.kept
+        &self.run.kept
     }
 
     /// What the texts were read as.
     pub fn readings(&self) -> &Readings {
-        &self.readings
+        &self.run.readings
     }
 
     /// The present text of a name, if there is one. Each name has one text.

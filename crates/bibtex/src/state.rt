@@ -7,11 +7,11 @@ ghost use Rattle.bibtex.specs.Applied.{applied, changed, refusal_of, splice_refu
 use crate::edit::{Edit, Refusal};
 use crate::files::{all_shared, replaced, with_text, without};
 use crate::refusal::{remove_refusal, root_refusal, splice_refusal, write_refusal};
-use crate::reread::Reread;
+use crate::reread::Rereader;
 use bt_bib::Splice;
 use bt_job::{File, text_of};
 use bt_text::{Bytes, Sequence, Shared};
-use std::alloc::AllocError;
+use std::alloc::{AllocError, Global};
 
 /// What a session is about: the present texts, each under its name, the root name, and how many entries must refer to
 /// an uncited one before it is listed.
@@ -50,19 +50,19 @@ impl State {
     /// The state with other bytes in place of the bytes `start..end` of a text, which is re-read if it is known as a
     /// database.
     #[tactic(auto, using(crate::proofs::SessionLemmas::replaced_is_splice))]
-    fn spliced(
+    fn spliced<R: Rereader>(
         &self,
+        alloc: Global,
         name: &[u8],
         start: usize,
         end: usize,
         bytes: &[u8],
-        reread: &mut Reread<'_>,
+        reread: &mut R,
     ) -> Result<State, AllocError>
         requires right { splice_refusal self.now.texts name.now start end (length bytes.now) ≡ None }
         ensures { IfOk result (λ state. state ≡ changed (splice name.now start end bytes.now) self.now) }
     {
         let files = self.texts.as_slice();
-        let alloc = reread.alloc;
         let old = text_of(files, name).unwrap_or(b"");
         let text = Shared::new(alloc, replaced(alloc, old, start, end, bytes)?)?;
         let splice = Splice {
@@ -70,23 +70,29 @@ impl State {
             end,
             inserted: bytes.len(),
         };
-        reread.splice(old, &text, splice)?;
+        reread.splice(alloc, old, &text, splice)?;
         self.with_texts(with_text(alloc, files, name, text)?)
     }
 
     /// The state after an edit that there is no reason to refuse.
-    fn changed(&self, edit: Edit<'_>, reread: &mut Reread<'_>) -> Result<State, AllocError>
+    fn changed<R: Rereader>(
+        &self,
+        alloc: Global,
+        edit: Edit<'_>,
+        reread: &mut R,
+    ) -> Result<State, AllocError>
         requires right { refusal_of (edit_of edit) (length (bytes_of (edit_of edit))) self.now ≡ None }
         ensures { IfOk result (λ state. state ≡ changed (edit_of edit.entry) self.now) }
     {
-        let alloc = reread.alloc;
         let files = self.texts.as_slice();
         match edit {
             Edit::Write(name, text) => {
                 let text = Shared::<Bytes>::copied(alloc, text)?;
                 self.with_texts(with_text(alloc, files, name, text)?)
             }
-            Edit::Splice(name, start, end, bytes) => self.spliced(name, start, end, bytes, reread),
+            Edit::Splice(name, start, end, bytes) => {
+                self.spliced(alloc, name, start, end, bytes, reread)
+            },
             Edit::Remove(name) => self.with_texts(without(alloc, files, name)?),
             Edit::Root(name) => Ok(State {
                 texts: all_shared(alloc, files)?,
@@ -103,13 +109,18 @@ impl State {
 
     /// The state after an edit, made beside this one, with which it shares everything that stays. Refusals are tested in
     /// the order of their cases, out of memory last. A known database that is spliced is re-read.
-    pub fn after(&self, edit: Edit<'_>, reread: &mut Reread<'_>) -> Result<State, Refusal>
+    pub fn after<R: Rereader>(
+        &self,
+        alloc: Global,
+        edit: Edit<'_>,
+        reread: &mut R,
+    ) -> Result<State, Refusal>
         ensures ok { IfOk result (λ state. applied (edit_of edit.entry) self.now ≡ Ok state) }
         ensures refused { IsAnswer (applied (edit_of edit.entry) self.now) result }
     {
         if let Some(refusal) = self.refusal(edit, edit.bytes().len()) {
             return Err(refusal);
         }
-        Ok(self.changed(edit, reread)?)
+        Ok(self.changed(alloc, edit, reread)?)
     }
 }

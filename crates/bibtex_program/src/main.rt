@@ -3,17 +3,17 @@
 
 mod disk;
 
-ghost use Rattle.std.specs.Prelude.{◌≡◌, ◌<◌, ◌-◌, ◌^◌, true};
+ghost use Rattle.std.specs.Prelude.{◌≡◌, true};
 ghost use Rattle.bibtex.specs.Present.{is_root_name};
 
 use crate::disk::Disk;
 use anyhow::Result;
 use bibtex::Session;
 use bt_one_shot::{Options, OptionsFault, one_shot, parse_options};
-use bt_serve::serve;
-use bt_streams::{ReaderSource, Sink, Source, WriterSink};
-use std::alloc::AllocError;
-use std::io::{BufReader, BufWriter, ErrorKind};
+use bt_serve::{ServeFault, serve};
+use bt_streams::{ReaderSource, WriterSink};
+use std::alloc::{AllocError, Global};
+use std::io::{BufReader, BufWriter, ErrorKind, Read, Write};
 use std::process::ExitCode;
 use std::{env, io};
 
@@ -37,17 +37,21 @@ fn refuse(rt: &(impl Print + Eprint), fault: OptionsFault) -> Result<ExitCode> {
     }
 }
 
-/// Runs the command loop over a source and a sink, and reports its fault, if it ends with one.
-fn answer<S: Source, K: Sink>(
-    rt: &HostRuntime,
-    source: &mut S,
-    sink: &mut K,
+/// Answers the commands that a reader gives, up to the end of the input or a fault.
+fn answer<R: Read + Drop, W: Write + Drop>(
+    alloc: Global,
+    reader: R,
+    writer: W,
     session: &mut Session,
-) -> Result<ExitCode>
-    requires reads { (S.seen source.old).failures < 2 ^ 64 - 1 }
-    requires writes { (K.seen sink.old).failures < 2 ^ 64 - 1 }
-{
-    match serve(rt.alloc(), source, sink, session) {
+) -> Result<(), ServeFault> {
+    let mut source = ReaderSource::new(reader);
+    let mut sink = WriterSink::new(writer);
+    serve(alloc, &mut source, &mut sink, session)
+}
+
+/// Reports the fault of a command loop, if it ended with one.
+fn end(rt: &HostRuntime, answered: Result<(), ServeFault>) -> Result<ExitCode> {
+    match answered {
         Ok(()) => Ok(ExitCode::SUCCESS),
         Err(fault) => {
             eprintln!(rt; "bibtex: fault {}", fault.number())?;
@@ -65,10 +69,12 @@ fn stay(rt: &HostRuntime, options: &Options) -> Result<ExitCode> {
     let Ok(writer) = BufWriter::new(alloc, io::writer(rt)) else {
         return out_of_memory(rt);
     };
-    let mut source = ReaderSource::new(reader);
-    let mut sink = WriterSink::new(writer);
     match Session::new(alloc, options.root.as_slice(), options.min) {
-        Ok(mut session) => answer(rt, &mut source, &mut sink, &mut session),
+        Ok(mut session) => {
+            let answered = answer(alloc, reader, writer, &mut session);
+            drop(session);
+            end(rt, answered)
+        }
         Err(_) => out_of_memory(rt),
     }
 }

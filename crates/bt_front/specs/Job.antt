@@ -4,7 +4,8 @@ use Rattle.std.specs.List.{ends_with}
 use Rattle.bt_bib.specs.AuxLine.{aux_lines}
 use Rattle.bt_log.specs.Log.{log_bytes, terse_bytes}
 use Rattle.bt_job.specs.declared.files.File.{File}
-use Rattle.bt_run.specs.Meaning.{Meaning, meaning}
+use Rattle.bt_run.specs.declared.course.Step.{Step}
+use Rattle.bt_run.specs.Meaning.{Meaning, meaning, trace}
 use Rattle.bt_files.specs.Names.{is_own_name, session_name, with_author}
 use Rattle.bt_files.specs.AuxText.{names_in, item_with, written}
 use Rattle.bt_files.specs.Messages.{name_back, put_back}
@@ -70,3 +71,7 @@ meaning_under table files root min = told_under table (meaning (map (file_under 
 -- what an author's files mean
 unfoldable pub job_meaning : List File → List ℕ → ℕ → Meaning
 job_meaning files root min = meaning_under (table_of files root) files root min
+
+-- the steps of their run
+unfoldable pub job_trace : List File → List ℕ → ℕ → List Step
+job_trace files root min = trace (map (file_under (table_of files root)) files) (root_under root) min

@@ -3,16 +3,17 @@
 //! Three steps: collect all names that the files have or give, run the same job under names that a session admits, and put
 //! the author's names back into what it shows. All names are collected first, since a name's number depends on those before.
 
-ghost use Rattle.std.specs.Prelude.{◌≡◌, ◌++◌, map, IfOk, OnOk};
+ghost use Rattle.std.specs.Prelude.{◌≡◌, ℕ, ◌++◌, map, IfOk, OnOk};
 ghost use Rattle.bt_bib.specs.AuxLine.{aux_lines};
+ghost use Rattle.bt_run.specs.Meaning.{meaning, trace};
 ghost use Rattle.bt_run.specs.Shown.{meaning_of};
 ghost use Rattle.bt_files.specs.AuxText.{names_by, part_with, item_with};
 ghost use Rattle.bt_files.specs.Messages.{name_back};
-ghost use Rattle.bt_front.specs.Job.{is_aux, names_given, names_with, names_of, table_of, renamed, text_under, file_under, root_under, told_under, job_meaning};
+ghost use Rattle.bt_front.specs.Job.{is_aux, names_given, names_with, names_of, table_of, renamed, text_under, file_under, root_under, told_under, job_meaning, job_trace};
 
 use bt_bib::{AuxItem, Command, read_aux};
 use bt_files::{Names, all_put_back, is_own_name, written};
-use bt_job::{File, file_name_of};
+use bt_job::{AuxTexts, File, file_name_of, read_citations};
 use bt_log::{log_bytes, terse_bytes};
 use bt_run::{Answers, Kept, Readings, Run, answers_after, run_once};
 use bt_text::{Bytes, Sequence, Shared};
@@ -203,16 +204,64 @@ fn names_back(alloc: Global, names: &Names, files: &[Bytes]) -> Result<Sequence<
     Ok(back)
 }
 
-fn told_under(alloc: Global, names: &Names, shown: Answers) -> Result<Answers, AllocError>
-    ensures { IfOk result (λ told. meaning_of told ≡ told_under names.now (meaning_of shown)) }
+/// A job under the session's names.
+#[derive(Drop)]
+struct UnderNames {
+    names: Names,
+    files: Sequence<File>,
+    root: Bytes,
+}
+
+impl UnderNames {
+    fn of(alloc: Global, files: &[File], root: &[u8]) -> Result<UnderNames, AllocError>
+        ensures names { IfOk result (λ under. under.names ≡ table_of files.now root.now) }
+        ensures files { IfOk result (λ under. under.files ≡ map (file_under under.names) files.now) }
+        ensures root { IfOk result (λ under. under.root ≡ root_under root.now) }
+    {
+        let names = table_of(alloc, files, root)?;
+        let files = files_under(alloc, &names, files)?;
+        let root = root_under(alloc, root)?;
+        Ok(UnderNames { names, files, root })
+    }
+
+    /// `drop` is called by name here, since it is proved for all types at once: a function in which `?` drops a run takes a
+    /// minute to prove.
+    fn run_after(
+        &self,
+        alloc: Global,
+        min: u32,
+        kept: &Kept,
+        readings: Readings,
+    ) -> Result<Run, AllocError>
+        ensures meaning { IfOk result (λ run. meaning_of run.answers
+            ≡ told_under self.now.names (meaning self.now.files self.now.root min)) }
+        ensures steps { IfOk result (λ run. run.kept.steps ≡ trace self.now.files self.now.root min) }
+    {
+        let (files, root) = (self.files.as_slice(), self.root.as_slice());
+        let mut run = answers_after(alloc, files, root, min, kept, readings)?;
+        match put_names_back(alloc, &self.names, &mut run.answers) {
+            Ok(()) => Ok(run),
+            Err(error) => {
+                drop(run);
+                Err(error)
+            }
+        }
+    }
+}
+
+/// Puts the author's names back.
+fn put_names_back(alloc: Global, names: &Names, answers: &mut Answers) -> Result<(), AllocError>
+    ensures { OnOk result (meaning_of answers.new ≡ told_under names.now (meaning_of answers.old)) }
 {
-    let messages = all_put_back(alloc, names, shown.messages.as_slice())?;
-    let mut told = shown;
-    told.blg = log_bytes(alloc, messages.as_slice())?;
-    told.terse = terse_bytes(alloc, messages.as_slice())?;
-    told.wanted = names_back(alloc, names, told.wanted.as_slice())?;
-    told.messages = messages;
-    Ok(told)
+    let messages = all_put_back(alloc, names, answers.messages.as_slice())?;
+    let blg = log_bytes(alloc, messages.as_slice())?;
+    let terse = terse_bytes(alloc, messages.as_slice())?;
+    let wanted = names_back(alloc, names, answers.wanted.as_slice())?;
+    answers.blg = blg;
+    answers.terse = terse;
+    answers.messages = messages;
+    answers.wanted = wanted;
+    Ok(())
 }
 
 /// What a job's files mean, of any size and number and under any names. `root` is the name of the job's first `.aux` file
@@ -221,16 +270,13 @@ fn told_under(alloc: Global, names: &Names, shown: Answers) -> Result<Answers, A
 pub fn run(alloc: Global, files: &[File], root: &[u8], min: u32) -> Result<Answers, AllocError>
     ensures { IfOk result (λ answers. meaning_of answers ≡ job_meaning files.now root.now min) }
 {
-    let names = table_of(alloc, files, root)?;
-    let under = files_under(alloc, &names, files)?;
-    let root = root_under(alloc, root)?;
-    let shown = run_once(alloc, under.as_slice(), root.as_slice(), min)?;
-    let told = told_under(alloc, &names, shown)?;
-    Ok(told)
+    let under = UnderNames::of(alloc, files, root)?;
+    let mut answers = run_once(alloc, under.files.as_slice(), under.root.as_slice(), min)?;
+    put_names_back(alloc, &under.names, &mut answers)?;
+    Ok(answers)
 }
 
 /// As `run`, with the steps of the run and what it read of the files. Both are under the session's names.
-#[tactic(auto, unfolding(crate::specs::Job::job_meaning))]
 pub fn run_keeping_steps(
     alloc: Global,
     files: &[File],
@@ -239,23 +285,46 @@ pub fn run_keeping_steps(
 ) -> Result<Run, AllocError>
     ensures { IfOk result (λ run. meaning_of run.answers ≡ job_meaning files.now root.now min) }
 {
-    let names = table_of(alloc, files, root)?;
-    let under = files_under(alloc, &names, files)?;
-    let root = root_under(alloc, root)?;
     let (kept, readings) = (Kept::nothing(alloc), Readings::nothing(alloc));
-    let run = answers_after(
+    run_after(alloc, files, root, min, &kept, readings)
+}
+
+/// As `run_keeping_steps`, after a run that left `kept` and `readings`: a step that nothing new can reach isn't run, and a text
+/// that was read isn't read. What an earlier run left changes nothing of the result.
+#[tactic(auto, unfolding(crate::specs::Job::job_meaning, crate::specs::Job::job_trace))]
+pub fn run_after(
+    alloc: Global,
+    files: &[File],
+    root: &[u8],
+    min: u32,
+    kept: &Kept,
+    readings: Readings,
+) -> Result<Run, AllocError>
+    ensures meaning { IfOk result (λ run. meaning_of run.answers ≡ job_meaning files.now root.now min) }
+    ensures steps { IfOk result (λ run. run.kept.steps ≡ job_trace files.now root.now min) }
+{
+    match UnderNames::of(alloc, files, root) {
+        Ok(under) => under.run_after(alloc, min, kept, readings),
+        Err(error) => {
+            drop(readings);
+            Err(error)
+        }
+    }
+}
+
+/// The names of the files that a run of the job looks for and doesn't find, in order, each once. Nothing is run. The only
+/// error is out of memory.
+pub fn wanted(alloc: Global, files: &[File], root: &[u8]) -> Result<Sequence<Bytes>, AllocError>
+    ensures { IfOk result (λ names. (min : ℕ) → names ≡ (job_meaning files.now root.now min).wanted) }
+{
+    let under = UnderNames::of(alloc, files, root)?;
+    let mut known = AuxTexts::new(alloc);
+    let citations = read_citations(
         alloc,
-        under.as_slice(),
-        root.as_slice(),
-        min,
-        &kept,
-        readings,
+        under.files.as_slice(),
+        under.root.as_slice(),
+        &mut known,
     )?;
-    let answers = told_under(alloc, &names, run.answers)?;
-    Ok(Run {
-        answers,
-        kept: run.kept,
-        readings: run.readings,
-        report: run.report,
-    })
+    let wanted = names_back(alloc, &under.names, citations.wanted.as_slice())?;
+    Ok(wanted)
 }

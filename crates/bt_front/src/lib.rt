@@ -4,4 +4,4 @@
 
 mod job;
 
-pub use job::{names_of, run, run_keeping_steps};
+pub use job::{names_of, run, run_after, run_keeping_steps, wanted};

@@ -9,10 +9,12 @@
 //! each piece, the macros, and the stored entries. The latter may have older values, but their keys, types and references
 //! are right, and nothing else of them is asked for.
 
-ghost use Rattle.std.specs.Prelude.{◌≡◌, ◌+◌, ◌^◌, ◌<◌, ◌≤◌, length, map, IfOk, IfSome, IsTrue};
+ghost use Rattle.std.specs.Prelude.{◌≡◌, ◌+◌, ◌++◌, ◌^◌, ◌<◌, ◌≤◌, length, map, IfOk, IfSome, IsTrue};
 ghost use Rattle.bt_bib.specs.Items.{items_of};
 ghost use Rattle.bt_text.specs.NameList.{are_apart};
-ghost use Rattle.bt_resolve.specs.inner.Kept.{IsAround, IsEditOf, IsFound, IsResolvedEdit, IsSpanEdit, found_of, mark_of, resolved_for, with_database};
+ghost use Rattle.bt_resolve.specs.inner.Kept.{IsAround, IsEditOf, IsFound, IsResolvedEdit, IsSpanEdit, asked_by, found_of, mark_of, resolved_for, with_database};
+ghost use Rattle.bt_resolve.specs.References.{list_messages};
+ghost use Rattle.bt_resolve.specs.inner.Inheritance.{seen_of};
 
 use crate::asked::Asked;
 use crate::databases::{nothing_read, read_databases};
@@ -187,18 +189,45 @@ fn all_lent<'a>(alloc: Global, databases: &'a [Shared<Items>]) -> Result<Vec<&'a
     Ok(lent)
 }
 
+/// Resolves the list, once all is read.
+fn found_in(
+    alloc: Global,
+    asked: &Asked<'_>,
+    min: u32,
+    read: Reading,
+    reaches: Sequence<Sequence<Reach>>,
+) -> Result<Found, AllocError>
+    requires { IfSome asked.now.star (λ before. before ≤ length asked.now.keys) }
+    ensures { IfOk result (λ found.
+        let all = record read { messages = read.messages ++ list_messages asked.now read.store } in
+        found ≡ found_of all reaches (seen_of asked.now min read.store)) }
+{
+    let mut read = read;
+    let seen = resolve_list(alloc, asked, min, &read.store, &mut read.messages)?;
+    let found = found_of(alloc, read, reaches, seen)?;
+    Ok(found)
+}
+
+fn find_asked(alloc: Global, asked: &Asked<'_>, question: &Question) -> Result<Found, AllocError>
+    requires fields { IsTrue (are_apart question.now.declared.fields) }
+    requires star { IfSome question.now.cites.star (λ before. before ≤ length question.now.cites.keys) }
+    requires asked { asked.now ≡ asked_by question.now }
+    ensures { IfOk result (λ found. IsFound question.now found) }
+{
+    let mut read = nothing_read(alloc, question.declared.macros.as_slice())?;
+    let databases = all_lent(alloc, question.databases.as_slice())?;
+    let reaches = read_databases(alloc, asked, databases.as_slice(), &mut read)?;
+    let found = found_in(alloc, asked, question.min, read, reaches)?;
+    Ok(found)
+}
+
 fn find(alloc: Global, question: &Question) -> Result<Found, AllocError>
     requires fields { IsTrue (are_apart question.now.declared.fields) }
     requires star { IfSome question.now.cites.star (λ before. before ≤ length question.now.cites.keys) }
     ensures { IfOk result (λ found. IsFound question.now found) }
 {
     let asked = Asked::new(alloc, &question.declared, &question.cites)?;
-    let mut read = nothing_read(alloc, question.declared.macros.as_slice())?;
-    let databases = all_lent(alloc, question.databases.as_slice())?;
-    let reaches = read_databases(alloc, &asked, databases.as_slice(), &mut read)?;
-    let seen = resolve_list(alloc, &asked, question.min, &read.store, &mut read.messages)?;
-    let found = found_of(alloc, read, reaches, seen)?;
-    Ok(found)
+    find_asked(alloc, &asked, question)
 }
 
 impl Resolution {

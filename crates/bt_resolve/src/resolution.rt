@@ -6,7 +6,7 @@
 ghost use Rattle.std.specs.Prelude.{◌≡◌, ◌≤◌, ◌++◌, length, map, IfOk, IfSome, IsTrue, OnOk};
 ghost use Rattle.bt_bib.specs.BibText.{pieces_of};
 ghost use Rattle.bt_bib.specs.Items.{items_of};
-ghost use Rattle.bt_resolve.specs.inner.Databases.{resolved_of};
+ghost use Rattle.bt_resolve.specs.inner.Databases.{after_databases, nothing_read, resolved_of};
 ghost use Rattle.bt_resolve.specs.inner.Inheritance.{seen_of};
 ghost use Rattle.bt_text.specs.NameList.{are_apart};
 ghost use Rattle.bt_resolve.specs.References.{list_messages};
@@ -14,7 +14,7 @@ ghost use Rattle.bt_resolve.specs.Resolved.{resolved};
 
 use crate::asked::Asked;
 use crate::databases::{nothing_read, read_texts};
-use crate::declared::{Cites, Declared};
+use crate::declared::{Cites, Declared, Macro};
 use crate::entry::Resolved;
 use crate::family::Family;
 use crate::list::listed;
@@ -71,6 +71,25 @@ fn resolve_read(
     })
 }
 
+/// Reads the texts of databases, and resolves what is asked of them.
+fn resolve_texts(
+    alloc: Global,
+    asked: &Asked<'_>,
+    macros: &[Macro],
+    texts: &[Shared<Bytes>],
+    min: u32,
+) -> Result<Resolved, AllocError>
+    requires fields { IsTrue (are_apart asked.now.fields) }
+    requires star { IfSome asked.now.star (λ before. before ≤ length asked.now.keys) }
+    ensures { IfOk result (λ all.
+        let s = after_databases asked.now 1 (nothing_read macros.now) (map (λ text. items_of (pieces_of text)) texts.now) in
+        all ≡ resolved_of asked.now min s.stored s.preamble s.messages) }
+{
+    let mut read = nothing_read(alloc, macros)?;
+    read_texts(alloc, asked, texts, &mut read)?;
+    resolve_read(alloc, asked, min, &mut read)
+}
+
 /// The list of entries that a style sees, the preamble, and all messages, from the texts of the databases in their order.
 /// No item is kept: each is dropped before the next is read. An uncited entry to which fewer than `min` entries refer
 /// isn't in the list.
@@ -87,7 +106,5 @@ pub fn resolve(
         ≡ resolved declared.now cites.now (map (λ text. items_of (pieces_of text)) texts.now) min) }
 {
     let asked = Asked::for_all(alloc, declared, cites)?;
-    let mut read = nothing_read(alloc, declared.macros.as_slice())?;
-    read_texts(alloc, &asked, texts, &mut read)?;
-    resolve_read(alloc, &asked, min, &mut read)
+    resolve_texts(alloc, &asked, declared.macros.as_slice(), texts, min)
 }

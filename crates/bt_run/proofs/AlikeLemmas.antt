@@ -63,16 +63,18 @@ read_found job number r back is = λ n.
     ∙ ap (λ (all : Resolved). found_at all.entries n) (sym (resolved_is job number))
 
 pub asked_read : (a : Asking) (job : Job) (number : ℕ) (r back : Course) → question_of a ≡ question_for job number → back ≡ read job number r → AreAsked (Some a) back.entries
-asked_read a job number r back asks is = λ b e.
-    let same : a ≡ b = cc in
-    subst (λ (q : Question). AreFound (resolved_for q) back.entries) (sym asks ∙ ap question_of same) (read_found job number r back is)
+asked_read a job number r back asks is = record {
+  found = λ b e.
+      let same : a ≡ b = cc in
+      subst (λ (q : Question). AreFound (resolved_for q) back.entries) (sym asks ∙ ap question_of same) (read_found job number r back is);
+}
 
 -- what is known of the entries of an earlier run
 
 pub earlier_alike : (asked : Option Asking) (entries : List Entry) (kept : Option KeptResolution) (alike : Alike) (is : Resolved) → AreAsked asked entries → IsAbout kept asked → ((was : Question) → IsKept kept was → IsAlike alike (resolved_for was) is) → AreAlike alike entries is
 earlier_alike None entries kept alike is found about known = absurd about
 earlier_alike (Some a) entries kept alike is found about known = λ n stays.
-    found a refl n ∙ known (question_of a) about n stays
+    found.found a refl n ∙ known (question_of a) about n stays
 
 pub alike_read : (alike : Alike) (entries : List Entry) (job : Job) (number : ℕ) (r back : Course) → AreAlike alike entries (resolved_for (question_for job number)) → back ≡ read job number r → (n : ℕ) → Stays alike n → fixed_at entries n ≡ fixed_at back.entries n
 alike_read alike entries job number r back known is = λ n stays. known n stays ∙ sym (read_found job number r back is n)

@@ -33,7 +33,7 @@ use Rattle.bt_run.specs.Steps.{StepsAre, styled_work, work_after}
 use Rattle.bt_run.specs.inner.Steps.{run_shown, calls_in, steps_under, IsTaken}
 use Rattle.bt_run.specs.Kept.{named_text, style_text, run_work, report_after}
 use Rattle.bt_run.proofs.WorkLemmas.{work_none, work_first}
-use Rattle.bt_run.proofs.EarlierLemmas.{nothing_placed, same_none}
+use Rattle.bt_run.proofs.EarlierLemmas.{nothing_asked, nothing_placed, same_none}
 use Rattle.bt_run.proofs.TurnLemmas.{none_in_turn, none_left, calls_begun}
 use Rattle.bt_run.specs.ReadCommand.{Job}
 use Rattle.bt_run.specs.Commands.{commands_from}
@@ -62,7 +62,7 @@ begun_consistent p earlier w s calls empty h are =
       left = none_left s.steps w none;
       given = λ go. (let on : IsTrue false = subst (λ (b : Bool). IsTrue b) h.8 go in absurd cc);
       called = calls_begun earlier.steps.now s.reuse.next s.steps calls h.9 none are;
-      found = rw h.11 (λ a e. absurd cc);
+      found = rw h.11 (nothing_asked w.entries);
     }
 
 -- a run's end
@@ -104,7 +104,7 @@ begun_kept entries s h = record {
   tagged = h.7 ∙ sym (ap (map step_tag) h.0);
   in_turn = none_in_turn s.steps h.0;
   called = rw h.10 (λ c e. absurd cc);
-  found = rw h.11 (λ a e. absurd cc);
+  found = rw h.11 (nothing_asked entries);
 }
 
 work_if : (p : Program) (b : Bool) (earlier steps : List Step) → work_under p (if b then earlier else []) steps ≡ (if b then work_under p earlier steps else steps)

@@ -33,7 +33,11 @@ pub same_back : (others entries : List Entry) (same : List Bool) (x : Option ℕ
 same_back others entries same x v h = λ n e. h n e ∙ sym (fixed_back x v entries n)
 
 pub asked_back : (asked : Option Asking) (entries : List Entry) (x : Option ℕ) (v : Option Variables) → AreAsked asked entries → AreAsked asked (variables_back x v entries)
-asked_back asked entries x v h = λ a e n. fixed_back x v entries n ∙ h a e n
+asked_back asked entries x v h = record { found = λ a e n. fixed_back x v entries n ∙ h.found a e n }
+
+-- Of no question, all entries are what was asked.
+pub nothing_asked : (entries : List Entry) → AreAsked None entries
+nothing_asked entries = record { found = λ a e. absurd cc }
 
 -- what stands in a list with one element more
 

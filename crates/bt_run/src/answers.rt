@@ -176,12 +176,11 @@ fn run_with(
         let course = idle(alloc, log)?;
         return Ok(StyleRun::new(course, wanted, None));
     };
-    let name = name.as_slice();
     // This call does nothing; the proof needs its contract, a law of the reader of styles.
     fields_are_apart();
     let keys = Shared::new(alloc, keys)?;
     let cites = Cites { keys, star };
-    let text = shared_text(alloc, files, name)?;
+    let text = shared_text(alloc, files, name.as_slice())?;
     let bytes = text.as_slice();
     match steps.readings.style(alloc, &text) {
         Ok(style) => {
@@ -191,7 +190,7 @@ fn run_with(
                 cites: &cites,
                 databases: databases.as_slice(),
                 min,
-                name,
+                name: name.as_slice(),
                 style: &style,
                 earlier,
             };
@@ -199,7 +198,7 @@ fn run_with(
             Ok(StyleRun::new(course, wanted, Some(text)))
         }
         Err(StyleRefusal::Fault { kind, line }) => {
-            let log = with_fault(alloc, name, StyleFault { kind, line }, log)?;
+            let log = with_fault(alloc, name.as_slice(), StyleFault { kind, line }, log)?;
             let course = idle(alloc, log)?;
             Ok(StyleRun::new(course, wanted, Some(text)))
         }

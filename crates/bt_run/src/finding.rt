@@ -51,6 +51,22 @@ fn keep_up(
     Ok(alike)
 }
 
+/// Finds all anew, and keeps it.
+fn find_anew(
+    alloc: Global,
+    asking: Asking,
+    kept: &mut Option<KeptResolution>,
+    databases: &mut Sequence<Database>,
+) -> Result<(), AllocError>
+    requires fields { IsTrue (are_apart asking.declared.fields) }
+    requires star { IfSome asking.cites.star (λ before. before ≤ length asking.cites.keys) }
+    ensures { OnOk result (IsKept kept.new (question_of asking)) }
+{
+    *kept = None;
+    *kept = Some(KeptResolution::anew(alloc, asking, databases)?);
+    Ok(())
+}
+
 /// Finds what is asked, and keeps it. Of the databases, those that weren't read before are read, and put after those
 /// that were. Returns which entries of what was kept stay.
 pub fn find(
@@ -70,8 +86,7 @@ pub fn find(
     if alike.is_known() {
         return Ok(alike);
     }
-    *kept = None;
-    *kept = Some(KeptResolution::anew(alloc, asking, databases)?);
+    find_anew(alloc, asking, kept, databases)?;
     Ok(Alike::Unknown)
 }
 

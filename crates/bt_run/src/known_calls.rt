@@ -6,7 +6,7 @@
 ghost use Rattle.std.specs.Prelude.{◌≡◌, ℕ, ◌+◌, ◌++◌, ◌<◌, [], ◌∷◌, List, slice_index_or, IfOk, IsTrue, OnOk};
 ghost use Rattle.std.specs.Option.{ForSome};
 ghost use Rattle.bt_run.specs.declared.course.Step.{Step as StepSeen};
-ghost use Rattle.bt_run.specs.inner.Calls.{AreCalls, AreCallsFrom};
+ghost use Rattle.bt_run.specs.inner.Calls.{AreCalls, AreCallsFrom, AreExchanged};
 ghost use Rattle.bt_run.specs.inner.Turn.{IsSharedFrom};
 
 use crate::counts::{Calls, add_calls, count_calls};
@@ -29,9 +29,7 @@ fn exchange_calls(
     old: &[u32; BUILTIN_COUNT],
     new: &[u32; BUILTIN_COUNT],
 ) -> Result<(), AllocError>
-    ensures { OnOk result ((place : ℕ) → place < 37 →
-        slice_index_or sums.new place 0 + slice_index_or old.now place 0
-        ≡ slice_index_or sums.old place 0 + slice_index_or new.now place 0) }
+    ensures { OnOk result (AreExchanged sums.old sums.new old.now new.now) }
 {
     'places: for place in 0..BUILTIN_COUNT {
         let rest = sums[place]
@@ -52,9 +50,7 @@ fn with_added(calls: Calls, step: &Step) -> Result<Calls, AllocError>
 }
 
 fn with_exchanged(calls: Calls, old: &Step, new: &Step) -> Result<Calls, AllocError>
-    ensures { IfOk result (λ sums. (place : ℕ) → place < 37 →
-        slice_index_or sums place 0 + slice_index_or old.now.outcome.calls place 0
-        ≡ slice_index_or calls place 0 + slice_index_or new.now.outcome.calls place 0) }
+    ensures { IfOk result (λ sums. AreExchanged calls sums old.now.outcome.calls new.now.outcome.calls) }
 {
     let mut sums = calls;
     exchange_calls(&mut sums, &old.outcome.calls, &new.outcome.calls)?;

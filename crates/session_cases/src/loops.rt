@@ -1,35 +1,20 @@
 //! Runs of the command loop over sources and sinks that fail or move few bytes at a time, and the result of each.
 
-ghost use Rattle.std.specs.Prelude.{◌<◌, ◌-◌, ◌^◌};
-
 use crate::script::{Case, Script, number, split, text};
-use crate::sessions::begin;
+use crate::tested::Tested;
 use anyhow::Result;
 use bibtex::{Refusal, Session};
-use bt_serve::{ServeFault, serve};
-use bt_streams::{Sink, Source, StreamFailed};
+use bt_serve::ServeFault;
+use bt_streams::StreamFailed;
 use fakes::{Giver, Limits, Taker};
 use std::alloc::{AllocError, Global};
 use std::cell::Cell;
 use std::fmt::Display;
 
-/// Runs the loop. It is generic and ensures nothing, so its callers don't carry along what is proved of the loop.
-fn answer_input<S: Source, K: Sink>(
-    alloc: Global,
-    source: &mut S,
-    sink: &mut K,
-    session: &mut Session,
-) -> Result<(), ServeFault>
-    requires reads { (S.seen source.old).failures < 2 ^ 64 - 1 }
-    requires writes { (K.seen sink.old).failures < 2 ^ 64 - 1 }
-{
-    serve(alloc, source, sink, session)
-}
-
-fn tell(
+fn tell<S: Tested>(
     rt: &HostRuntime,
     ended: Result<(), ServeFault>,
-    session: &Session,
+    session: &S,
     source: &Giver<'_>,
     sink: &Taker<'_>,
 ) -> Result<()> {
@@ -38,7 +23,7 @@ fn tell(
         Err(fault) => print!(rt; ": {fault}, {} bytes read", source.given())?,
     }
     for name in ["job.aux", "s.bst", "x.bib", "y.bib"] {
-        if session.file(name.as_bytes()).is_some() {
+        if session.text(name.as_bytes()).is_some() {
             print!(rt; ", {name}")?;
         }
     }
@@ -53,13 +38,13 @@ fn tell(
     Ok(())
 }
 
-fn answer(rt: &HostRuntime, input: &[u8], limits: Limits<'_>) -> Result<()> {
+fn answer<S: Tested>(rt: &HostRuntime, input: &[u8], limits: Limits<'_>) -> Result<()> {
     let alloc = rt.alloc();
-    let mut session = begin(alloc, b"job", 2)?;
+    let mut session = S::begun(alloc, b"job", 2)?;
     let handed_on = Cell::new(0);
     let mut source = Giver::new(alloc, input, limits, &handed_on);
     let mut sink = Taker::new(alloc, limits, &handed_on);
-    let ended = answer_input(alloc, &mut source, &mut sink, &mut session);
+    let ended = session.answer(alloc, &mut source, &mut sink);
     tell(rt, ended, &session, &source, &sink)
 }
 
@@ -136,7 +121,7 @@ impl Loop {
             _ => {}
         }
         print!(rt; "{}", title(word))?;
-        answer(rt, input.get(..end).unwrap_or(input), limits)
+        answer::<Session>(rt, input.get(..end).unwrap_or(input), limits)
     }
 
     /// The same for each place from one number up to another.

@@ -14,12 +14,14 @@ mod loops;
 mod refused;
 mod script;
 mod sessions;
+mod tested;
 
 use crate::jobs::Job;
 use crate::loops::Loop;
 use crate::script::{Script, answer_all};
 use crate::sessions::Edited;
 use anyhow::Result;
+use bibtex::Session;
 use std::env;
 use std::io::Read;
 use std::process::ExitCode;
@@ -30,7 +32,7 @@ fn answer_script(rt: &HostRuntime) -> Result<()> {
     let mut script = Script::new(text.as_slice());
     answer_all::<Loop>(rt, &mut script, "jobs")?;
     answer_all::<Job>(rt, &mut script, "sessions")?;
-    answer_all::<Edited>(rt, &mut script, "end")
+    answer_all::<Edited<Session>>(rt, &mut script, "end")
 }
 
 /// Makes all calls, and says whether each gave the right answer.

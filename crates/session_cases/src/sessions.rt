@@ -3,8 +3,9 @@
 
 use crate::inputs::agree;
 use crate::script::{Case, Script, number, split, text};
+use crate::tested::{Shown, Tested};
 use anyhow::Result;
-use bibtex::{Bytes, Edit, Message, Place, Refusal, Report, Said, Session, edit_all};
+use bibtex::{Bytes, Edit, Message, Place, Refusal, Report, Said};
 use std::alloc::{AllocError, Global};
 
 /// The names whose texts are compared.
@@ -12,18 +13,18 @@ const NAMES: [&str; 8] = [
     "job.aux", "two.aux", "n.aux", "s.bst", "t.bst", "x.bib", "y.bib", "a b",
 ];
 
-fn push_answers(session: &Session, seen: &mut Bytes) -> Result<(), AllocError> {
-    let status = [session.status()];
-    seen.append_all(&[session.bbl(), session.blg(), session.terse(), &status])?;
-    for name in session.wanted() {
+fn push_answers<S: Tested>(session: &S, seen: &mut Bytes) -> Result<(), AllocError> {
+    let shown = session.shown();
+    seen.append_all(&[shown.bbl, shown.blg, shown.terse, &[shown.status]])?;
+    for name in shown.wanted {
         seen.append_all(&[name.as_slice(), b"\n"])?;
     }
     Ok(())
 }
 
-fn push_texts(session: &Session, seen: &mut Bytes) -> Result<(), AllocError> {
+fn push_texts<S: Tested>(session: &S, seen: &mut Bytes) -> Result<(), AllocError> {
     for name in NAMES {
-        if let Some(text) = session.file(name.as_bytes()) {
+        if let Some(text) = session.text(name.as_bytes()) {
             seen.append_all(&[name.as_bytes(), b"\n", text])?;
         }
     }
@@ -31,26 +32,16 @@ fn push_texts(session: &Session, seen: &mut Bytes) -> Result<(), AllocError> {
 }
 
 /// All that a session shows.
-fn seen(alloc: Global, session: &Session) -> Result<Bytes, AllocError> {
-    let words = format!(in alloc; "{:?}", session.messages())?;
+fn seen<S: Tested>(alloc: Global, session: &S) -> Result<Bytes, AllocError> {
+    let words = format!(in alloc; "{:?}", session.shown().messages)?;
     let mut seen = Bytes::from_vec(words.into_bytes());
     push_answers(session, &mut seen)?;
     push_texts(session, &mut seen)?;
     Ok(seen)
 }
 
-fn shows(alloc: Global, session: &Session, wanted: &Bytes) -> Result<bool, AllocError> {
+fn shows<S: Tested>(alloc: Global, session: &S, wanted: &Bytes) -> Result<bool, AllocError> {
     Ok(seen(alloc, session)?.as_slice() == wanted.as_slice())
-}
-
-/// A new session. The function ensures nothing, so its callers don't carry along what is proved of a session.
-pub fn begin(alloc: Global, root: &[u8], min: u32) -> Result<Session, Refusal> {
-    Session::new(alloc, root, min)
-}
-
-/// Makes an edit. It ensures nothing, for the same reason.
-pub fn make(session: &mut Session, edit: Edit<'_>) -> Result<Report, Refusal> {
-    session.edit(edit)
 }
 
 /// The edit of a line: `write LEN NAME` or `splice START END LEN NAME` with LEN bytes, `remove NAME`, `root NAME`, or
@@ -84,22 +75,22 @@ fn tell_answer(rt: &HostRuntime, answer: Result<Report, Refusal>) -> Result<()> 
 }
 
 /// Makes an edit. If memory ran out and the session is as before, standard error says so, and the edit is made again.
-fn made(
+fn made<S: Tested>(
     rt: &HostRuntime,
-    session: &mut Session,
+    session: &mut S,
     edit: Edit<'_>,
     before: &Bytes,
 ) -> Result<Result<Report, Refusal>> {
-    let answer = make(session, edit);
+    let answer = session.make(edit);
     if !matches!(answer, Err(Refusal::OutOfMemory)) || !shows(rt.alloc(), session, before)? {
         return Ok(answer);
     }
     eprintln!(rt; "out of memory: once more")?;
-    Ok(make(session, edit))
+    Ok(session.make(edit))
 }
 
 /// Prints, after a refusal, whether the session is as before.
-fn tell_change(rt: &HostRuntime, session: &Session, before: &Bytes) -> Result<()> {
+fn tell_change<S: Tested>(rt: &HostRuntime, session: &S, before: &Bytes) -> Result<()> {
     if shows(rt.alloc(), session, before)? {
         println!(rt; "all is as before")?;
     } else {
@@ -109,7 +100,11 @@ fn tell_change(rt: &HostRuntime, session: &Session, before: &Bytes) -> Result<()
 }
 
 /// Makes an edit, prints the answer, and returns the report.
-fn tell_edit(rt: &HostRuntime, session: &mut Session, edit: Edit<'_>) -> Result<Option<Report>> {
+fn tell_edit<S: Tested>(
+    rt: &HostRuntime,
+    session: &mut S,
+    edit: Edit<'_>,
+) -> Result<Option<Report>> {
     let before = seen(rt.alloc(), session)?;
     let answer = made(rt, session, edit, &before)?;
     tell_answer(rt, answer)?;
@@ -120,11 +115,11 @@ fn tell_edit(rt: &HostRuntime, session: &mut Session, edit: Edit<'_>) -> Result<
 }
 
 /// Gives a new session the present texts of another one, and returns the last report.
-fn give_texts(anew: &mut Session, session: &Session) -> Result<Option<Report>, Refusal> {
+fn give_texts<S: Tested>(anew: &mut S, session: &S) -> Result<Option<Report>, Refusal> {
     let mut last = None;
     for name in NAMES {
-        if let Some(text) = session.file(name.as_bytes()) {
-            last = Some(make(anew, Edit::Write(name.as_bytes(), text))?);
+        if let Some(text) = session.text(name.as_bytes()) {
+            last = Some(anew.make(Edit::Write(name.as_bytes(), text))?);
         }
     }
     Ok(last)
@@ -140,16 +135,16 @@ fn are_as_long(one: Option<Report>, other: Option<Report>) -> bool {
     }
 }
 
-fn shows_same(alloc: Global, session: &Session, anew: &Session) -> Result<bool, AllocError> {
+fn shows_same<S: Tested>(alloc: Global, session: &S, anew: &S) -> Result<bool, AllocError> {
     shows(alloc, anew, &seen(alloc, session)?)
 }
 
 /// Prints whether a new session with the present texts shows the same, and its last report counts as many steps.
-fn tell_difference(
+fn tell_difference<S: Tested>(
     rt: &HostRuntime,
-    session: &Session,
+    session: &S,
     last: Option<Report>,
-    anew: &mut Session,
+    anew: &mut S,
 ) -> Result<()> {
     let report = give_texts(anew, session)?;
     if are_as_long(last, report) && shows_same(rt.alloc(), session, anew)? {
@@ -160,27 +155,27 @@ fn tell_difference(
     Ok(())
 }
 
-fn tell_anew(rt: &HostRuntime, session: &Session, last: Option<Report>, words: &str) -> Result<()> {
+fn tell_anew<S: Tested>(
+    rt: &HostRuntime,
+    session: &S,
+    last: Option<Report>,
+    words: &str,
+) -> Result<()> {
     let (min, root) = split(words);
     let min = min.parse::<u32>().unwrap_or(2);
-    let mut anew = begin(rt.alloc(), root.as_bytes(), min)?;
+    let mut anew = S::begun(rt.alloc(), root.as_bytes(), min)?;
     tell_difference(rt, session, last, &mut anew)
 }
 
-fn tell_letters(rt: &HostRuntime, session: &mut Session, words: &str) -> Result<Option<Report>> {
+fn tell_letters<S: Tested>(
+    rt: &HostRuntime,
+    session: &mut S,
+    words: &str,
+) -> Result<Option<Report>> {
     let (count, name) = split(words);
     let letters = vec![in rt.alloc(); b'a'; number(count)]?;
     let edit = Edit::Write(name.as_bytes(), letters.as_slice());
     tell_edit(rt, session, edit)
-}
-
-/// Makes edits as one list. It ensures nothing, for the same reason.
-fn make_all(
-    alloc: Global,
-    session: &mut Session,
-    edits: &[Edit<'_>],
-) -> Result<Vec<Result<Report, Refusal>>, AllocError> {
-    edit_all(alloc, session, edits)
 }
 
 fn has_run_out(answers: &[Result<Report, Refusal>]) -> bool {
@@ -190,12 +185,12 @@ fn has_run_out(answers: &[Result<Report, Refusal>]) -> bool {
 }
 
 /// Makes edits as one list. Returns nothing if memory ran out.
-fn made_once(
+fn made_once<S: Tested>(
     alloc: Global,
-    session: &mut Session,
+    session: &mut S,
     edits: &[Edit<'_>],
 ) -> Option<Vec<Result<Report, Refusal>>> {
-    let answers = make_all(alloc, session, edits).ok()?;
+    let answers = session.make_all(alloc, edits).ok()?;
     if has_run_out(&answers) {
         return None;
     }
@@ -203,7 +198,7 @@ fn made_once(
 }
 
 /// Reports that memory ran out in a list of edits, and whether something has changed.
-fn tell_run_out(rt: &HostRuntime, session: &Session, before: &Bytes) -> Result<()> {
+fn tell_run_out<S: Tested>(rt: &HostRuntime, session: &S, before: &Bytes) -> Result<()> {
     if !shows(rt.alloc(), session, before)? {
         println!(rt; "something has changed")?;
     }
@@ -219,13 +214,13 @@ fn tell_answers(rt: &HostRuntime, answers: &[Result<Report, Refusal>]) -> Result
 }
 
 /// Makes edits as one list; again if memory ran out.
-fn tell_list(rt: &HostRuntime, session: &mut Session, edits: &[Edit<'_>]) -> Result<()> {
+fn tell_list<S: Tested>(rt: &HostRuntime, session: &mut S, edits: &[Edit<'_>]) -> Result<()> {
     let before = seen(rt.alloc(), session)?;
     if let Some(answers) = made_once(rt.alloc(), session, edits) {
         return tell_answers(rt, &answers);
     }
     tell_run_out(rt, session, &before)?;
-    tell_answers(rt, &make_all(rt.alloc(), session, edits)?)
+    tell_answers(rt, &session.make_all(rt.alloc(), edits)?)
 }
 
 fn edits_of<'a>(
@@ -243,9 +238,9 @@ fn edits_of<'a>(
 }
 
 /// Makes the edits of the next lines as one list.
-fn tell_list_of<'a>(
+fn tell_list_of<'a, S: Tested>(
     rt: &HostRuntime,
-    session: &mut Session,
+    session: &mut S,
     count: usize,
     script: &mut Script<'a>,
 ) -> Result<()> {
@@ -254,21 +249,21 @@ fn tell_list_of<'a>(
 }
 
 /// Prints the first reason to refuse an edit that brings this number of bytes.
-fn tell_reason<'a>(
+fn tell_reason<'a, S: Tested>(
     rt: &HostRuntime,
-    session: &Session,
+    session: &S,
     words: &'a str,
     script: &mut Script<'a>,
 ) -> Result<()> {
     let (size, line) = split(words);
-    let reason = session.refusal(edit_of(line, script), number(size));
+    let reason = session.reason(edit_of(line, script), number(size));
     println!(rt; "refusal: {reason:?}")?;
     Ok(())
 }
 
-fn tell_wanted(rt: &HostRuntime, session: &Session) -> Result<()> {
+fn tell_wanted(rt: &HostRuntime, names: &[Bytes]) -> Result<()> {
     print!(rt; "wanted:")?;
-    for name in session.wanted() {
+    for name in names {
         print!(rt; " {}", text(name.as_slice()))?;
     }
     println!(rt; "")?;
@@ -293,11 +288,11 @@ fn tell_last(rt: &HostRuntime, messages: &[Message]) -> Result<()> {
     Ok(())
 }
 
-fn tell_logs(rt: &HostRuntime, session: &Session) -> Result<()> {
-    println!(rt; "status {}", session.status())?;
-    print!(rt; "bibliography:\n{}", text(session.bbl()))?;
-    print!(rt; "log:\n{}", text(session.blg()))?;
-    print!(rt; "terse log:\n{}", text(session.terse()))?;
+fn tell_logs(rt: &HostRuntime, shown: Shown<'_>) -> Result<()> {
+    println!(rt; "status {}", shown.status)?;
+    print!(rt; "bibliography:\n{}", text(shown.bbl))?;
+    print!(rt; "log:\n{}", text(shown.blg))?;
+    print!(rt; "terse log:\n{}", text(shown.terse))?;
     Ok(())
 }
 
@@ -311,16 +306,17 @@ fn tell_agreement(rt: &HostRuntime, words: &str) -> Result<()> {
     Ok(())
 }
 
-fn show(rt: &HostRuntime, session: &Session, word: &str, words: &str) -> Result<()> {
+fn show<S: Tested>(rt: &HostRuntime, session: &S, word: &str, words: &str) -> Result<()> {
+    let shown = session.shown();
     match word {
-        "wanted" => tell_wanted(rt, session)?,
-        "show" => tell_logs(rt, session)?,
-        "bibliography" => print!(rt; "bibliography:\n{}", text(session.bbl()))?,
-        "message" => tell_last(rt, session.messages())?,
-        "messages" => println!(rt; "{:?}", session.messages())?,
+        "wanted" => tell_wanted(rt, shown.wanted)?,
+        "show" => tell_logs(rt, shown)?,
+        "bibliography" => print!(rt; "bibliography:\n{}", text(shown.bbl))?,
+        "message" => tell_last(rt, shown.messages)?,
+        "messages" => println!(rt; "{:?}", shown.messages)?,
         "agrees" => tell_agreement(rt, words)?,
         _ => {
-            let text = text(session.file(words.as_bytes()).unwrap_or(b"none"));
+            let text = text(session.text(words.as_bytes()).unwrap_or(b"none"));
             println!(rt; "{words}: {text}")?;
         }
     }
@@ -329,15 +325,15 @@ fn show(rt: &HostRuntime, session: &Session, word: &str, words: &str) -> Result<
 
 /// A session, and the report of its last edit, unless that was refused.
 #[derive(Drop)]
-pub struct Edited {
-    session: Session,
+pub struct Edited<S: Tested> {
+    session: S,
     last: Option<Report>,
 }
 
-impl Case for Edited {
+impl<S: Tested> Case for Edited<S> {
     fn begun(rt: &HostRuntime) -> Result<Self> {
         Ok(Edited {
-            session: begin(rt.alloc(), b"job", 2)?,
+            session: S::begun(rt.alloc(), b"job", 2)?,
             last: None,
         })
     }

@@ -6,11 +6,11 @@ use Rattle.bt_job.specs.declared.files.File.{File}
 use Rattle.bt_job.specs.FileNames.{with_name}
 use Rattle.bt_log.specs.declared.message.Message.{Message}
 use Rattle.bt_log.specs.Log.{log_bytes, terse_bytes}
-use Rattle.bt_run.specs.Meaning.{Meaning, meaning}
+use Rattle.bt_run.specs.Meaning.{Meaning, meaning, trace}
 use Rattle.bt_files.specs.Names.{is_own_name, with_author}
 use Rattle.bt_files.specs.Messages.{name_back, put_back}
 use Rattle.bt_files.proofs.laws.MessageLemmas.{name_stays, message_stays}
-use Rattle.bt_front.specs.Job.{is_aux, renamed, file_under, root_under, names_of, table_of, told_under, meaning_under, job_meaning}
+use Rattle.bt_front.specs.Job.{is_aux, renamed, file_under, root_under, names_of, table_of, told_under, meaning_under, job_meaning, job_trace}
 
 -- The table
 
@@ -84,3 +84,11 @@ unfolding job_meaning table_of
 job_kept files root min all =
     ap (λ (table : List (List ℕ)). meaning_under table files root min) (empty_table (names_of files root) all)
     ∙ under_kept files root min (first_own _ _ all)
+
+pub steps_kept : (files : List File) (root : List ℕ) (min : ℕ) → list_all is_own_name (names_of files root) ≡ true
+    → job_trace files root min ≡ trace files root min
+unfolding job_trace table_of
+steps_kept files root min all =
+    ap (λ (table : List (List ℕ)). trace (map (file_under table) files) (root_under root) min) (empty_table (names_of files root) all)
+    ∙ ap (λ (fs : List File). trace fs (root_under root) min) (files_kept files)
+    ∙ ap (λ (r : List ℕ). trace files r min) (root_kept root (first_own _ _ all))

@@ -29,8 +29,8 @@ abbrev pub AreFound : Resolved → List Entry → Type 0
 AreFound all entries = (n : ℕ) → fixed_at entries n ≡ found_at all.entries n
 
 -- They are those that were found for a question, if it is known.
-abbrev pub AreAsked : Option Asking → List Entry → Type 0
-AreAsked asked entries = ForSome asked (λ a. AreFound (resolved_for (question_of a)) entries)
+pub record AreAsked (asked : Option Asking) (entries : List Entry) : Type 0 where
+  pub found : ForSome asked (λ a. AreFound (resolved_for (question_of a)) entries)
 
 -- whether something is known
 abbrev pub is_known : Alike → Bool

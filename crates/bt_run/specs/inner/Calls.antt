@@ -11,3 +11,8 @@ AreCalls steps calls = (place : ℕ) → place < 37 → slice_index_or calls pla
 abbrev pub AreCallsFrom : List Step → ℕ → List Step → List ℕ → Type 0
 AreCallsFrom earlier n steps calls = (place : ℕ) → place < 37 →
     slice_index_or calls place 0 ≡ calls_at steps place + calls_at (drop n earlier) place
+
+-- sums before and after one step's calls took the place of another's
+abbrev pub AreExchanged : List ℕ → List ℕ → List ℕ → List ℕ → Type 0
+AreExchanged before after old new = (place : ℕ) → place < 37 →
+    slice_index_or after place 0 + slice_index_or old place 0 ≡ slice_index_or before place 0 + slice_index_or new place 0

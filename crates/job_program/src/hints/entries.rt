@@ -194,16 +194,21 @@ fn hint_at_parent(
     Ok(())
 }
 
+fn spell(alloc: Global, spellings: &mut Spellings, key: &[u8]) -> Result<(), AllocError> {
+    let low = folded(alloc, key)?;
+    if !spellings.contains_key(low.as_slice()) {
+        let _ = spellings.insert(low, Bytes::copied(alloc, key)?)?;
+    }
+    Ok(())
+}
+
 /// The first of a key counts.
 fn spellings(alloc: Global, databases: &[Items]) -> Result<Spellings, AllocError> {
     let mut spellings = IndexMap::new(alloc);
     'databases: for database in databases {
         'pieces: for placed in database.pieces() {
             if let Some((_, key)) = entry(&placed.piece) {
-                let low = folded(alloc, key)?;
-                if !spellings.contains_key(low.as_slice()) {
-                    let _ = spellings.insert(low, Bytes::copied(alloc, key)?)?;
-                }
+                spell(alloc, &mut spellings, key)?;
             }
         }
     }
@@ -278,6 +283,31 @@ fn read_all(alloc: Global, files: &[File]) -> Result<Vec<Items>, AllocError> {
     Ok(databases)
 }
 
+fn hint_at_entries(
+    alloc: Global,
+    hints: &mut Hints<'_>,
+    entries: &[Keyed<'_>],
+    databases: &[Items],
+) -> Result<(), AllocError> {
+    hint_at_all_names(alloc, hints, entries)?;
+    if entries.iter().any(|(entry, _)| has_parent(entry)) {
+        let spellings = spellings(alloc, databases)?;
+        hint_at_all_parents(alloc, hints, entries, &spellings)?;
+    }
+    Ok(())
+}
+
+fn hint_at_cited(
+    alloc: Global,
+    hints: &mut Hints<'_>,
+    files: &[File],
+    databases: &[Items],
+) -> Result<(), AllocError> {
+    let keys = cited(alloc, files)?;
+    let entries = entries_of(alloc, &keys, databases)?;
+    hint_at_entries(alloc, hints, entries.as_slice(), databases)
+}
+
 /// Hints at the entries that the document cites. The run keeps none of them, so the databases are read once more, but
 /// only if a quick look at their texts says that there may be something to hint at.
 pub fn hint(alloc: Global, hints: &mut Hints<'_>, job: Job<'_>) -> Result<(), AllocError> {
@@ -285,12 +315,5 @@ pub fn hint(alloc: Global, hints: &mut Hints<'_>, job: Job<'_>) -> Result<(), Al
         return Ok(());
     }
     let databases = read_all(alloc, job.files)?;
-    let keys = cited(alloc, job.files)?;
-    let entries = entries_of(alloc, &keys, databases.as_slice())?;
-    hint_at_all_names(alloc, hints, entries.as_slice())?;
-    if entries.iter().any(|(entry, _)| has_parent(entry)) {
-        let spellings = spellings(alloc, databases.as_slice())?;
-        hint_at_all_parents(alloc, hints, entries.as_slice(), &spellings)?;
-    }
-    Ok(())
+    hint_at_cited(alloc, hints, job.files, databases.as_slice())
 }

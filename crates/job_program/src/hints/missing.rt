@@ -59,6 +59,30 @@ impl Nearest<'_> {
         }
         Ok(())
     }
+
+    /// Looks at a file or folder: whether it is the file or has it, or has nearly its name.
+    fn look_at(
+        &mut self,
+        alloc: Global,
+        rt: &HostRuntime,
+        found: &str,
+        ending: &str,
+    ) -> Result<Option<Offer>, AllocError> {
+        if found == self.name {
+            return Ok(Some(Offer::Itself));
+        }
+        if found.ends_with(ending) {
+            self.note(alloc, found)?;
+        } else if !found.starts_with('.') && is_in(alloc, rt, found, self.name)? {
+            return Ok(Some(Offer::Folder(String::from_str(alloc, found)?)));
+        }
+        Ok(None)
+    }
+}
+
+fn is_in(alloc: Global, rt: &HostRuntime, folder: &str, name: &str) -> Result<bool, AllocError> {
+    let path = format!(in alloc; "{folder}/{name}")?;
+    Ok(matches!(fs::exists(rt, path.as_str()), Ok(true)))
 }
 
 /// What the folder offers in the place of a file.
@@ -89,16 +113,8 @@ fn look_for(
             // Such as a name that isn't UTF-8.
             Err(_) => continue,
         };
-        let found = entry.file_name();
-        if found == name {
-            return Ok(Some(Offer::Itself));
-        }
-        if found.ends_with(ending) {
-            nearest.note(alloc, found)?;
-        } else if !found.starts_with('.')
-            && let Ok(true) = fs::exists(rt, format!(in alloc; "{found}/{name}")?.as_str())
-        {
-            return Ok(Some(Offer::Folder(String::from_str(alloc, found)?)));
+        if let Some(offer) = nearest.look_at(alloc, rt, entry.file_name(), ending)? {
+            return Ok(Some(offer));
         }
     }
     match nearest.best {

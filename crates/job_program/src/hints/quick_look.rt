@@ -150,21 +150,40 @@ fn has_other_key(alloc: Global, text: &[u8], parents: &Parents<'_>) -> Result<bo
     Ok(false)
 }
 
-/// Whether the databases may have what is hinted at. The only error is out of memory.
-pub fn may_be_wrong(alloc: Global, files: &[File]) -> Result<bool, AllocError> {
-    let mut parents = IndexMap::new(alloc);
-    'fields: for file in files {
-        if is_database(file) && has_wrong_field(alloc, file.text.as_slice(), &mut parents)? {
-            return Ok(true);
-        }
-    }
-    if parents.is_empty() {
-        return Ok(false);
-    }
-    'keys: for file in files {
-        if is_database(file) && has_other_key(alloc, file.text.as_slice(), &parents)? {
+fn has_wrong_fields<'a>(
+    alloc: Global,
+    files: &'a [File],
+    parents: &mut Parents<'a>,
+) -> Result<bool, AllocError> {
+    'files: for file in files {
+        if is_database(file) && has_wrong_field(alloc, file.text.as_slice(), parents)? {
             return Ok(true);
         }
     }
     Ok(false)
+}
+
+fn has_other_keys(
+    alloc: Global,
+    files: &[File],
+    parents: &Parents<'_>,
+) -> Result<bool, AllocError> {
+    'files: for file in files {
+        if is_database(file) && has_other_key(alloc, file.text.as_slice(), parents)? {
+            return Ok(true);
+        }
+    }
+    Ok(false)
+}
+
+/// Whether the databases may have what is hinted at. The only error is out of memory.
+pub fn may_be_wrong(alloc: Global, files: &[File]) -> Result<bool, AllocError> {
+    let mut parents = IndexMap::new(alloc);
+    if has_wrong_fields(alloc, files, &mut parents)? {
+        return Ok(true);
+    }
+    if parents.is_empty() {
+        return Ok(false);
+    }
+    has_other_keys(alloc, files, &parents)
 }

@@ -99,6 +99,19 @@ fn mark(
     Ok(mark)
 }
 
+/// Where the entry begins that reaches into a line; empty if it begins there.
+fn beginning(alloc: Global, text: &[u8], place: &Shown<'_>) -> Result<Bytes, AllocError> {
+    let mut begun = Bytes::new(alloc);
+    if place.file.ends_with(b".bib")
+        && let Some(first) = item_line(text, place.line)
+    {
+        let mut digits = Buffer::new();
+        let first = digits.format(first).as_bytes();
+        begun.append_all(&[b" (the entry begins at line ", first, b")"])?;
+    }
+    Ok(begun)
+}
+
 fn hint_at(
     alloc: Global,
     hints: &mut Hints<'_>,
@@ -114,14 +127,7 @@ fn hint_at(
     let mut digits = Buffer::new();
     let number = digits.format(place.line).as_bytes();
     let mark = mark(alloc, line, before, place.byte)?;
-    let mut begun = Bytes::new(alloc);
-    if place.file.ends_with(b".bib")
-        && let Some(first) = item_line(text, place.line)
-    {
-        let mut digits = Buffer::new();
-        let first = digits.format(first).as_bytes();
-        begun.append_all(&[b" (the entry begins at line ", first, b")"])?;
-    }
+    let begun = beginning(alloc, text, place)?;
     hints.give(&[
         b"hint: line ",
         number,

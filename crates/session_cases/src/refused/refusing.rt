@@ -1,7 +1,7 @@
 //! What a session with the greatest number of files shows, and which edits it refuses.
 
 use crate::refused::attempt::Part;
-use crate::sessions::{begin, make};
+use crate::tested::Tested;
 use bibtex::{Edit, FILE_BYTES, FILE_LIMIT, Refusal, Session};
 use bt_log::status;
 use std::alloc::{AllocError, Global};
@@ -43,32 +43,32 @@ const REFUSED: &[(Edit<'static>, Refusal)] = &[
     (Edit::Write(b"y.bib", b"text"), Refusal::TooManyFiles),
 ];
 
-fn shows_texts(session: &Session) -> bool {
-    session.file(b"x.bib") == Some(DATABASE)
-        && session.file(b"y.bib").is_none()
-        && session.refusal(Edit::Splice(b"x.bib", 1, 100_000, b""), 9)
-            == Some(Refusal::RangeOutside)
+fn shows_texts<S: Tested>(session: &S) -> bool {
+    session.text(b"x.bib") == Some(DATABASE)
+        && session.text(b"y.bib").is_none()
+        && session.reason(Edit::Splice(b"x.bib", 1, 100_000, b""), 9) == Some(Refusal::RangeOutside)
 }
 
 /// Whether the session shows the job of two entries.
-fn shows_two(session: &Session) -> bool {
-    session.bbl() == b"A\nB\n".as_slice()
-        && session.blg().starts_with(FILES)
-        && session.terse().is_empty()
-        && session.status() == 0
-        && session.wanted().is_empty()
-        && status(session.messages()) == 0
+fn shows_two<S: Tested>(session: &S) -> bool {
+    let shown = session.shown();
+    shown.bbl == b"A\nB\n".as_slice()
+        && shown.blg.starts_with(FILES)
+        && shown.terse.is_empty()
+        && shown.status == 0
+        && shown.wanted.is_empty()
+        && status(shown.messages) == 0
         && shows_texts(session)
 }
 
-fn is_refused(session: &mut Session, edit: Edit<'_>, reason: Refusal) -> bool {
-    match make(session, edit) {
+fn is_refused<S: Tested>(session: &mut S, edit: Edit<'_>, reason: Refusal) -> bool {
+    match session.make(edit) {
         Err(refusal) => refusal == reason && shows_two(session),
         Ok(_) => false,
     }
 }
 
-fn refuses_listed(session: &mut Session) -> bool {
+fn refuses_listed<S: Tested>(session: &mut S) -> bool {
     for (edit, reason) in REFUSED {
         if !is_refused(session, *edit, *reason) {
             return false;
@@ -78,7 +78,7 @@ fn refuses_listed(session: &mut Session) -> bool {
 }
 
 /// Whether edits are refused that bring more bytes than a file may have.
-fn refuses_many(session: &mut Session, many: &[u8]) -> bool {
+fn refuses_many<S: Tested>(session: &mut S, many: &[u8]) -> bool {
     let large = Refusal::FileTooLarge;
     is_refused(session, Edit::Write(b"a b", many), Refusal::BadName)
         && is_refused(session, Edit::Write(b"y.bib", many), large)
@@ -86,23 +86,23 @@ fn refuses_many(session: &mut Session, many: &[u8]) -> bool {
         && is_refused(session, Edit::Splice(b"x.bib", 0, 44, many), large)
 }
 
-fn refuses_root(alloc: Global) -> bool {
-    match begin(alloc, b"a b", 2) {
+fn refuses_root<S: Tested>(alloc: Global) -> bool {
+    match S::begun(alloc, b"a b", 2) {
         Err(refusal) => refusal == Refusal::BadName,
         Ok(_) => false,
     }
 }
 
-fn write_one(alloc: Global, session: &mut Session, number: usize) -> Result<(), Refusal> {
+fn write_one<S: Tested>(alloc: Global, session: &mut S, number: usize) -> Result<(), Refusal> {
     let name = format!(in alloc; "more-{number}")?;
-    make(session, Edit::Write(name.as_bytes(), b"1"))?;
+    session.make(Edit::Write(name.as_bytes(), b"1"))?;
     Ok(())
 }
 
 /// Gives a session the job's files, and others up to the greatest number of files.
-fn fill_up(alloc: Global, session: &mut Session) -> Result<(), Refusal> {
+fn fill_up<S: Tested>(alloc: Global, session: &mut S) -> Result<(), Refusal> {
     for edit in WRITES {
-        make(session, *edit)?;
+        session.make(*edit)?;
     }
     for number in WRITES.len()..FILE_LIMIT {
         write_one(alloc, session, number)?;
@@ -115,27 +115,27 @@ fn letters(alloc: Global, count: usize) -> Result<Vec<u8>, AllocError> {
 }
 
 /// Whether the session shows its job, refuses edits, and still shows the job then.
-fn refuses_all(alloc: Global, session: &mut Session, many: &[u8]) -> bool {
+fn refuses_all<S: Tested>(alloc: Global, session: &mut S, many: &[u8]) -> bool {
     shows_two(session)
-        && refuses_root(alloc)
+        && refuses_root::<S>(alloc)
         && refuses_listed(session)
         && refuses_many(session, many)
 }
 
 /// Fills a session up, and returns whether it then does what it must.
-fn fills_up(alloc: Global, session: &mut Session, part: Part) -> Result<bool, Refusal> {
+fn fills_up<S: Tested>(alloc: Global, session: &mut S, part: Part) -> Result<bool, Refusal> {
     let many = letters(alloc, FILE_BYTES + 1)?;
     fill_up(alloc, session)?;
     Ok(part == Part::Setup || refuses_all(alloc, session, &many))
 }
 
-fn is_full_refusing(alloc: Global, part: Part) -> Result<bool, Refusal> {
-    let mut session = begin(alloc, b"job", 2)?;
+fn is_full_refusing<S: Tested>(alloc: Global, part: Part) -> Result<bool, Refusal> {
+    let mut session = S::begun(alloc, b"job", 2)?;
     fills_up(alloc, &mut session, part)
 }
 
 pub fn is_refusing(alloc: Global, part: Part) -> Result<bool, AllocError> {
-    match is_full_refusing(alloc, part) {
+    match is_full_refusing::<Session>(alloc, part) {
         Ok(is_refusing) => Ok(is_refusing),
         Err(_) => Err(AllocError),
     }

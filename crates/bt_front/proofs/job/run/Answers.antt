@@ -7,10 +7,10 @@ use Rattle.bt_front.proofs.job.run.Goals as goal
 
 pub returns : goal.returns
 returns c =
-    job_told c.in_ok-names.names c.args.files.now c.in_ok-under.under c.args.root.now c.in_ok-root.root c.args.min
-    (meaning_of c.in_ok-shown.shown) (meaning_of c.in_ok-told.told)
-    c.in_ok-names.ensures c.in_ok-under.ensures c.in_ok-root.ensures
-    (c.in_ok-shown.ensures
+    job_told c.in_ok-under.under.names c.args.files.now c.in_ok-under.under.files c.args.root.now c.in_ok-under.under.root c.args.min
+    (meaning_of c.in_ok-answers.answers) (meaning_of c.put_names_back.new.answers)
+    c.in_ok-under.ensures.names c.in_ok-under.ensures.files c.in_ok-under.ensures.root
+    (c.in_ok-answers.ensures
     ∙ ap (λ (fs : List File). meaning fs c.as_slice-2.result.now c.args.min) c.as_slice.ensures
-    ∙ ap (λ (r : List ℕ). meaning c.in_ok-under.under r c.args.min) c.as_slice-2.ensures)
-    c.in_ok-told.ensures
+    ∙ ap (λ (r : List ℕ). meaning c.in_ok-under.under.files r c.args.min) c.as_slice-2.ensures)
+    c.in_ok-put_names_back.ensures

@@ -1,5 +1,5 @@
 use Rattle.std.proofs.Common.{rules}
 use Rattle.bibtex.proofs.session.Session.go_to.Goals as goal
 
-pub invariant_of-self : goal.invariant_of-self
-invariant_of-self c = record { once = c.requires; is_meaning = search rules; is_text = search rules; are_steps = search rules }
+pub replace-requires : goal.replace-requires
+replace-requires c = record { once = c.requires; is_meaning = search rules; is_text = search rules; are_steps = search rules }
