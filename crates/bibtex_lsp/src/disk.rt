@@ -1,6 +1,5 @@
 //! The files that the server reads.
 
-use bibtex::FILE_BYTES;
 use bt_paper::Library;
 use bt_text::Bytes;
 use std::alloc::{AllocError, Global};
@@ -15,10 +14,9 @@ pub struct Disk<'a, R> {
 }
 
 fn contents<R: Files>(rt: &R, alloc: Global, path: &str) -> io::Result<Bytes> {
-    let file = fs::open(rt, path)?;
+    let mut file = fs::open(rt, path)?;
     let mut bytes = Vec::new(alloc);
-    // A byte more than a session takes, so that it refuses a text that is too large.
-    file.take(FILE_BYTES as u64 + 1).read_to_end(&mut bytes)?;
+    file.read_to_end(&mut bytes)?;
     Ok(Bytes::from_vec(bytes))
 }
 

@@ -1,8 +1,9 @@
 //! Over an entry of a database: its lines of the bibliography, and which of its fields the run never read.
 
 use crate::ran::Lens;
+use crate::wording::entry_words;
 use bt_bib::Entry;
-use bt_origins::{PlacedEntry, PlacedField, Sources, decimal};
+use bt_origins::{PlacedEntry, PlacedField, Sources};
 use bt_text::{ByName, Bytes, Sequence, eq_ignore_ascii_case};
 use bt_why::Written;
 use std::alloc::AllocError;
@@ -143,44 +144,9 @@ impl<'a> Use<'a> {
         Ok(names)
     }
 
-    fn add_lines(&self, sources: Sources<'_>, words: &mut Bytes) -> Result<(), AllocError> {
-        let first = decimal(sources.alloc, self.first)?;
-        let last = decimal(sources.alloc, self.last)?;
-        if self.first == 0 {
-            words.append(b"no line of its own")
-        } else if self.first == self.last {
-            words.append_all(&[b"line ", first.as_slice()])
-        } else {
-            words.append_all(&[b"lines ", first.as_slice(), b" to ", last.as_slice()])
-        }
-    }
-
     fn words(&self, sources: Sources<'_>) -> Result<Bytes, AllocError> {
-        let mut words = Bytes::new(sources.alloc);
-        self.add_lines(sources, &mut words)?;
         let unread = self.unread(sources)?;
-        add_unread(&mut words, unread.as_slice())?;
-        Ok(words)
-    }
-}
-
-/// Appends the names of the fields that the run never read.
-fn add_unread(words: &mut Bytes, names: &[&[u8]]) -> Result<(), AllocError> {
-    let last = names.len().saturating_sub(1);
-    for (place, name) in names.iter().enumerate() {
-        let between: &[u8] = if place == 0 {
-            b"; "
-        } else if place == last {
-            b" and "
-        } else {
-            b", "
-        };
-        words.append_all(&[between, *name])?;
-    }
-    match names {
-        [] => Ok(()),
-        [_] => words.append(b" isn't used"),
-        _ => words.append(b" aren't used"),
+        entry_words(sources.alloc, self.first, self.last, unread.as_slice())
     }
 }
 

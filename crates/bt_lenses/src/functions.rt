@@ -1,8 +1,9 @@
 //! Over a function of a style: how many pieces of the bibliography were pushed while it ran, and in how many entries.
 
 use crate::ran::Lens;
-use bt_origins::{Sources, decimal};
-use bt_text::{Bytes, Sequence};
+use crate::wording::function_words;
+use bt_origins::Sources;
+use bt_text::Sequence;
 use bt_why::{Piece, pieces};
 use bt_words::Program;
 use indexmap::IndexSet;
@@ -79,30 +80,6 @@ fn counted(sources: Sources<'_>, program: &Program) -> Result<Vec<Share>, AllocE
     Ok(shares)
 }
 
-/// Appends a number and what is counted.
-fn add_count(
-    sources: Sources<'_>,
-    words: &mut Bytes,
-    count: usize,
-    one: &'static [u8],
-    many: &'static [u8],
-) -> Result<(), AllocError> {
-    let number = decimal(sources.alloc, count)?;
-    words.append(number.as_slice())?;
-    words.append(if count == 1 { one } else { many })
-}
-
-fn words_of(sources: Sources<'_>, share: &Share) -> Result<Bytes, AllocError> {
-    let mut words = Bytes::copied(sources.alloc, b"writes ")?;
-    add_count(sources, &mut words, share.pieces, b" piece", b" pieces")?;
-    let entries = share.entries.len();
-    if entries > 0 {
-        words.append(b" in ")?;
-        add_count(sources, &mut words, entries, b" entry", b" entries")?;
-    }
-    Ok(words)
-}
-
 /// Over each function that wrote something.
 pub fn function_lenses(
     sources: Sources<'_>,
@@ -115,7 +92,7 @@ pub fn function_lenses(
         if share.pieces > 0 {
             lenses.push(Lens {
                 line: line.saturating_sub(1),
-                words: words_of(sources, share)?,
+                words: function_words(sources.alloc, share.pieces, share.entries.len())?,
             })?;
         }
     }

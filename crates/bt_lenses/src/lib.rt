@@ -9,6 +9,7 @@ mod entries;
 mod functions;
 mod origin;
 mod ran;
+mod wording;
 
 pub use origin::{FileLine, Origin, origin_at};
 pub use ran::{Lens, Ran, lenses};

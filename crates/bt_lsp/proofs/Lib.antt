@@ -1,14 +1,4 @@
-pub mod PlainLists
-pub mod RespellingPlain
-pub mod FeaturePlain
 pub mod StylePlain
 pub mod PlainLemmas
-pub mod FileLemmas
-pub mod MoreLemmas
-pub mod KeyLemmas
-pub mod MentionLemmas
-pub mod TypeLemmas
-pub mod WordLemmas
 pub mod TakenLemmas
 pub mod CarriedLemmas
-pub mod AnnouncingLemmas

@@ -1,14 +1,14 @@
 -- What was done to the documents, from what was called.
-use Rattle.std.proofs.Common.{◌≡◌, ◌∙◌, ap, sym, subst, ℕ, ℤ, List, Bool, false, codes, Option, Some, option_map}
+use Rattle.std.proofs.Common.{◌≡◌, ◌∙◌, ap, sym, ℕ, ℤ, List, Bool, false, codes, Option, Some, option_map}
 use Rattle.std.specs.Prelude.{IsTrue}
 use Rattle.serde_json.specs.Data.{Data}
 use Rattle.bt_positions.specs.declared.counting.Counting.{Counting}
 use Rattle.bt_positions.specs.declared.indexed_text.Position.{Position}
 use Rattle.bt_documents.specs.declared.changes.Change.{Change}
 use Rattle.bt_documents.specs.declared.document.Document.{Document}
-use Rattle.bt_documents.specs.Documents.{opened, with_document, after_changes, Follows}
-use Rattle.bt_lsp.specs.Parameters.{text_at, version_at, position_at, document_named}
-use Rattle.bt_lsp.specs.Words.{counting_for, bytes_of, fits_latin}
+use Rattle.bt_documents.specs.Documents.{opened, with_document, after_changes}
+use Rattle.bt_places.specs.Parameters.{text_at, version_at, position_at, document_named}
+use Rattle.bt_places.specs.Words.{counting_for, bytes_of, fits_latin}
 use Rattle.bt_lsp.specs.Changes.{change_between, change_of, changes_of}
 use Rattle.bt_lsp.specs.Taken.{IsOpened, IsChanged}
 
@@ -45,9 +45,6 @@ was_changed m docs slice new uri name other counting version seen changes made n
   is = is ∙ ap (λ x. with_document x (after_changes x seen made) docs) o ∙ ap (λ x. with_document uri (after_changes uri x made) docs) (e ∙ v) ∙
       ap (λ x. with_document uri (after_changes uri (version_at (codes "/params/textDocument/version") m) x) docs) c;
 }
-
-pub refreshed : (t u : List ℕ → Option (List ℕ)) (docs slice : List Document) → slice ≡ docs → (Follows t slice → Follows u slice) → Follows t docs → Follows u docs
-refreshed t u docs slice e k f = subst (Follows u) e (k (subst (Follows t) (sym e) f))
 
 -- a change, from its parts
 pub made_change : (c : Counting) (d : Data) (words bytes : List ℕ) (from to : Option Position) (change : Change) → Some words ≡ text_at (codes "/text") d → bytes ≡ bytes_of c words →

@@ -3,9 +3,9 @@ use Rattle.std.specs.Prelude.{ℕ, Bool, if◌then◌else◌, List, [], ◌∷�
 use Rattle.serde_json.specs.Data.{Data}
 use Rattle.bt_rpc.specs.Messages.{notification}
 use Rattle.bt_lsp.specs.declared.announcing.Announced.{Announced}
-use Rattle.bt_lsp.specs.Parameters.{has_word_at}
-use Rattle.bt_lsp.specs.Shown.{Shown}
-use Rattle.bt_lsp.specs.Shapes.{shown_text, shown_status}
+use Rattle.bt_places.specs.Parameters.{has_word_at}
+use Rattle.bt_places.specs.Shown.{Shown}
+use Rattle.bt_places.specs.Shapes.{shown_text, shown_status}
 
 -- whether an editor asks for what a word names
 abbrev pub asks_for : List ℕ → Data → Bool

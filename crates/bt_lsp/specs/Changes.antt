@@ -6,8 +6,8 @@ use Rattle.bt_positions.specs.declared.counting.Counting.{Counting}
 use Rattle.bt_positions.specs.declared.indexed_text.Position.{Position}
 use Rattle.bt_documents.specs.declared.changes.Change.{Change}
 use Rattle.bt_documents.specs.declared.changes.Change.TheVariants.{Whole, Range}
-use Rattle.bt_lsp.specs.Parameters.{text_at, position_at}
-use Rattle.bt_lsp.specs.Words.{bytes_of}
+use Rattle.bt_places.specs.Parameters.{text_at, position_at}
+use Rattle.bt_places.specs.Words.{bytes_of}
 
 -- the change to these bytes of the part between two positions, or of the whole text if one of them is missing
 abbrev pub change_between : Option Position → Option Position → List ℕ → Change

@@ -23,6 +23,7 @@ request_of method =
     (if bytes_eq method (codes "textDocument/documentSymbol") then OfDocument Outline else
     (if bytes_eq method (codes "textDocument/foldingRange") then OfDocument Folds else
     (if bytes_eq method (codes "textDocument/formatting") then OfDocument Format else
+    (if bytes_eq method (codes "textDocument/rangeFormatting") then OfDocument Format else
     (if bytes_eq method (codes "textDocument/codeAction") then OfDocument Actions else
     (if bytes_eq method (codes "textDocument/documentLink") then OfDocument Links else
     (if bytes_eq method (codes "bibtex/bbl") then OfPaper Bibliography else
@@ -30,7 +31,7 @@ request_of method =
     (if bytes_eq method (codes "bibtex/status") then OfPaper Status else
     (if bytes_eq method (codes "workspace/symbol") then OfPaper Symbols else
     (if bytes_eq method (codes "textDocument/codeLens") then OfRun Lenses else
-    (if bytes_eq method (codes "bibtex/origin") then OfRun Origin else Unknown))))))))))))))))))
+    (if bytes_eq method (codes "bibtex/origin") then OfRun Origin else Unknown)))))))))))))))))))
 
 -- the notification of a method
 abbrev pub notice_of : List ℕ → Notice

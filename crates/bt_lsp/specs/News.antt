@@ -1,21 +1,22 @@
 -- What the editor is told after a change.
-use Rattle.std.specs.Prelude.{ℕ, nat_lt, not, ◌||◌, Bool, true, false, if◌then◌else◌, List, [], ◌∷◌, ◌++◌, map, length, codes, Option, Some, None}
+use Rattle.std.specs.Prelude.{ℕ, nat_lt, not, ◌||◌, Bool, if◌then◌else◌, List, [], ◌∷◌, ◌++◌, map, length, codes, Option, Some, None}
 use Rattle.serde_json.specs.Data.{Data, number, unsigned, string, object, member, no_members}
-use Rattle.bt_log.specs.declared.message.Message.{Message}
 use Rattle.bt_rpc.specs.Messages.{notification}
 use Rattle.bt_documents.specs.declared.document.Document.{Document}
 use Rattle.bt_diagnostics.specs.declared.diagnostic.Diagnostic.{Diagnostic}
 use Rattle.bt_diagnostics.specs.Diagnostics.{diagnostics}
 use Rattle.bt_lsp.specs.declared.methods.Notice.{Notice}
 use Rattle.bt_lsp.specs.declared.methods.Notice.TheVariants.{Opened, Changed, Closed, Saved, Exit, Other}
-use Rattle.bt_lsp.specs.Shown.{Shown}
+use Rattle.bt_places.specs.Shown.{Shown}
 use Rattle.bt_lsp.specs.declared.announcing.Announced.{Announced}
 use Rattle.bt_lsp.specs.Announcing.{with_announced}
-use Rattle.bt_lsp.specs.Parameters.{text_at}
-use Rattle.bt_lsp.specs.Entries.{is_tex, or_empty}
-use Rattle.bt_lsp.specs.Keys.{role_of, key_spans}
-use Rattle.bt_lsp.specs.Hints.{with_hints}
-use Rattle.bt_lsp.specs.Shapes.{diagnostic, published}
+use Rattle.bt_places.specs.Parameters.{text_at}
+use Rattle.bt_places.specs.Entries.{is_tex, or_empty}
+use Rattle.bt_answers.specs.Keys.{role_of, key_spans}
+use Rattle.bt_answers.specs.Faults.{with_faults}
+use Rattle.bt_answers.specs.Hints.{with_hints}
+use Rattle.bt_answers.specs.Related.{diagnostics_in}
+use Rattle.bt_places.specs.Shapes.{published}
 use Rattle.bt_lsp.specs.Styles.{with_style_hints}
 use Rattle.bt_style_findings.specs.declared.checked.Checked.{Checked}
 
@@ -35,17 +36,20 @@ shown_of shown d =
     if not (shows d) || nat_lt 1073741824 (length d.text) then []
     else diagnostics (run_name shown d) d.counting d.text (role_of d.name) (key_spans shown d) shown.messages
 
--- the notification that publishes them, the hints, and what the check of a style found
-abbrev pub published_of : Shown → List Checked → Document → Data
-published_of shown checked d = published d.name (with_style_hints checked d (with_hints shown.files d (map diagnostic (shown_of shown d))))
+-- the notification that publishes them, errors about files at their names, the hints, and what the check of a style found
+abbrev pub published_of : Bool → Shown → List Checked → Document → Data
+published_of relates shown checked d =
+    published d.name (with_style_hints checked d (with_hints shown.files d
+    (with_faults shown.messages d (diagnostics_in relates d (shown_of shown d)))))
 
 -- the diagnostics of each open document
-abbrev pub all_published : Shown → List Checked → List Document → List Data
-all_published shown checked docs = map (published_of shown checked) docs
+abbrev pub all_published : Bool → Shown → List Checked → List Document → List Data
+all_published relates shown checked docs = map (published_of relates shown checked) docs
 
 -- what comes first, then the diagnostics of each open document, and what is announced
-abbrev pub news : Announced → Shown → List Checked → List Document → List Data → List Data
-news announced shown checked docs first = with_announced announced shown (first ++ all_published shown checked docs)
+abbrev pub news : Announced → Bool → Shown → List Checked → List Document → List Data → List Data
+news announced relates shown checked docs first =
+    with_announced announced shown (first ++ all_published relates shown checked docs)
 
 -- what the editor is told if a message was lost
 abbrev pub lost_words : List ℕ

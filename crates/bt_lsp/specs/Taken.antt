@@ -7,8 +7,8 @@ use Rattle.bt_documents.specs.declared.document.Document.{Document}
 use Rattle.bt_documents.specs.Documents.{opened, closed, with_document, after_changes}
 use Rattle.bt_lsp.specs.declared.methods.Notice.{Notice}
 use Rattle.bt_lsp.specs.declared.methods.Notice.TheVariants.{Opened, Changed, Closed, Saved, Exit, Other}
-use Rattle.bt_lsp.specs.Parameters.{text_at, version_at, document_named}
-use Rattle.bt_lsp.specs.Words.{counting_for, bytes_of, fits_latin}
+use Rattle.bt_places.specs.Parameters.{text_at, version_at, document_named}
+use Rattle.bt_places.specs.Words.{counting_for, bytes_of, fits_latin}
 use Rattle.bt_lsp.specs.Changes.{changes_of}
 
 -- The document of a message is opened with its text, in the units of the editor. Only a text of which no letter is lost

@@ -4,13 +4,10 @@
 ghost use Rattle.std.specs.Prelude.{◌≡◌, ◌++◌, ◌∷◌, [], map, IfOk};
 ghost use Rattle.serde_json.specs.View.{view};
 ghost use Rattle.bt_rpc.specs.Messages.{notification};
-ghost use Rattle.bt_lsp.specs.Shapes.{shown_text, shown_status};
+ghost use Rattle.bt_places.specs.Shapes.{shown_text, shown_status};
 ghost use Rattle.bt_lsp.specs.Announcing.{asks_for, announced_by, with_bibliography, with_log, with_status, with_announced};
 
-use crate::paper::Paper;
-use crate::parameters::has_word_at;
-use crate::shapes::{shown_status, shown_text};
-use crate::visiting::with_value;
+use bt_places::{Paper, has_word_at, shown_status, shown_text, with_value};
 use bt_rpc::notification;
 use serde_json::Value;
 use std::alloc::{AllocError, Global};

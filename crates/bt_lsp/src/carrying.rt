@@ -1,22 +1,52 @@
-//! Carries out a notification: the documents change, the paper catches up, and the editor is told the news.
+//! Carries out a notification: the paper begins, if it hasn't yet, the documents change, the paper catches up, and the editor
+//! is told the news.
 
-ghost use Rattle.std.specs.Prelude.{◌≡◌, ◌++◌, ◌⊎◌, ◌||◌, map, IfOk, IsTrue};
+ghost use Rattle.std.specs.Prelude.{◌≡◌, ◌++◌, ◌⊎◌, ◌||◌, is_some, map, IfOk, OnErr, IsTrue};
 ghost use Rattle.serde_json.specs.View.{view};
 ghost use Rattle.bt_documents.specs.Documents.{AreGiven, any_behind, Follows};
-ghost use Rattle.bt_lsp.specs.Desk.{TakenOrLost, Tells, Carried};
+ghost use Rattle.bt_lsp.specs.Complaints.{complaints};
+ghost use Rattle.bt_lsp.specs.Desk.{news_of, news_with, BeginsBy, IsStarted, IsLost, TakenOrLost, Tells, Carried, TakenUp};
 ghost use Rattle.bt_lsp.specs.declared.methods.Notice.TheVariants.{Changed};
-ghost use Rattle.bt_lsp.specs.News.{news, warnings, cleared};
 
+use crate::complaints::{complaints, with_complaints};
 use crate::methods::Notice;
 use crate::news::{first_news, news};
-use crate::paper::Paper;
+use crate::progress::with_end;
 use crate::server::Server;
 use crate::styles::check_styles;
 use crate::taking::take;
 use bt_documents::{Document, give_again};
+use bt_places::{Paper, text_at};
 use bt_streams::Ahead;
+use bt_text::{Bytes, Sequence};
 use serde_json::Value;
 use std::alloc::{AllocError, Global};
+
+/// Begins a paper as the message `initialize` says.
+fn begin<P: Paper>(alloc: Global, paper: &mut P, message: &Value) -> Result<(), AllocError>
+    ensures ok { IfOk result (λ _. BeginsBy P.begins (view message.now) paper.old paper.new) }
+    ensures err { OnErr result (paper.new ≡ paper.old) }
+{
+    let job = text_at(message, "/params/initializationOptions/job");
+    let folder = text_at(message, "/params/rootUri");
+    paper.begin(alloc, job, folder)?;
+    Ok(())
+}
+
+/// Begins the paper, if it hasn't begun. If memory runs out, nothing changes.
+fn start<P: Paper>(alloc: Global, server: &mut Server<P>) -> Result<(), AllocError>
+    ensures ok { IfOk result (λ _. IsStarted P.begins server.old server.new) }
+    ensures err { OnErr result (server.new ≡ server.old) }
+    ensures due { OnErr result (IsTrue (is_some server.old.start)) }
+{
+    let Some(message) = &server.start else {
+        return Ok(());
+    };
+    begin(alloc, &mut server.paper, message)?;
+    server.documents = Sequence::new(alloc);
+    server.start = None;
+    Ok(())
+}
 
 /// Takes a notification, or remembers that it is lost.
 fn take_or_lose<P: Paper>(alloc: Global, server: &mut Server<P>, notice: Notice, message: &Value)
@@ -91,28 +121,49 @@ fn catch_up<P: Paper>(alloc: Global, server: &mut Server<P>) -> bool
     is_either(server.stale, behind)
 }
 
-/// The news: what comes first, and what the editor is told of each open document.
+/// The news: what comes first, these complaints, and what the editor is told of each open document.
 fn all_news<P: Paper>(
     alloc: Global,
     server: &Server<P>,
+    complaints: &[u8],
     behind: bool,
     notice: Notice,
     message: &Value,
 ) -> Result<Vec<Value>, AllocError>
-    ensures { IfOk result (λ told. map view told.items ≡
-        news server.now.announced (P.shown server.now.paper) server.now.checked server.now.documents
-        (warnings server.now.lost behind ++ cleared notice (view message.now))) }
+    ensures { IfOk result (λ told. map view told.items ≡ news_with P.shown complaints.now server.now.lost server.now.in_progress
+        server.now.said behind notice (view message.now) server.now) }
 {
     let first = first_news(alloc, server.lost, behind, notice, message)?;
+    let first = with_complaints(alloc, server.said.as_slice(), complaints, first)?;
     let told = news(
         alloc,
+        server.shows_related,
         &server.paper,
         server.checked.as_slice(),
         server.documents.as_slice(),
         server.announced,
         first,
     )?;
-    Ok(told)
+    let all = with_end(alloc, server.in_progress, told)?;
+    Ok(all)
+}
+
+/// The news, and the complaints among it.
+fn told<P: Paper>(
+    alloc: Global,
+    server: &Server<P>,
+    behind: bool,
+    notice: Notice,
+    message: &Value,
+) -> Result<(Vec<Value>, Bytes), AllocError>
+    ensures told { IfOk result (λ r. map view r.0.items ≡ news_of P.shown server.now.lost server.now.in_progress
+        server.now.said behind notice (view message.now) server.now) }
+    ensures said { IfOk result (λ r. r.1 ≡ complaints (P.shown server.now.paper) server.now.documents) }
+{
+    let said = complaints(alloc, &server.paper, server.documents.as_slice())?;
+    let words = said.as_slice();
+    let told = all_news(alloc, server, words, behind, notice, message)?;
+    Ok((told, said))
 }
 
 /// Checks the styles whose texts are new, and tells the news. If memory runs out for either, it tells nothing.
@@ -123,20 +174,25 @@ fn tell<P: Paper>(
     notice: Notice,
     message: &Value,
 ) -> Vec<Value>
-    ensures told { Tells P.shown server.old.lost behind notice (view message.now) (map view result.items) server.new }
+    ensures told { Tells P.shown server.old.lost server.old.in_progress server.old.said behind notice (view message.now)
+        (map view result.items) server.new }
     ensures rest { server.new ≡ record server.old {
       lost = server.new.lost;
+      in_progress = server.new.in_progress;
+      said = server.new.said;
       pending = server.new.pending;
       checked = server.new.checked;
     } }
 {
     let told = match check_styles(alloc, &mut server.checked, server.documents.as_slice()) {
-        Ok(()) => all_news(alloc, server, behind, notice, message),
+        Ok(()) => told(alloc, server, behind, notice, message),
         Err(error) => Err(error),
     };
     match told {
-        Ok(told) => {
+        Ok((told, said)) => {
+            server.said = said;
             server.lost = false;
+            server.in_progress = false;
             server.pending = behind;
             told
         }
@@ -148,7 +204,7 @@ fn tell<P: Paper>(
 }
 
 /// Takes a notification, lets the paper catch up, and tells the news.
-pub fn carry<P: Paper>(
+fn carry<P: Paper>(
     alloc: Global,
     server: &mut Server<P>,
     notice: Notice,
@@ -172,7 +228,7 @@ fn put_off<P: Paper>(alloc: Global, server: &mut Server<P>, message: &Value) -> 
 
 /// Takes a notification and tells the news. If more input is there already behind a change, both the paper and the editor
 /// wait for the last one.
-pub fn take_up<P: Paper>(
+fn carry_or_put_off<P: Paper>(
     alloc: Global,
     server: &mut Server<P>,
     notice: Notice,
@@ -184,5 +240,33 @@ pub fn take_up<P: Paper>(
     match (notice, ahead) {
         (Notice::Changed, Ahead::More) => put_off(alloc, server, message),
         _ => carry(alloc, server, notice, message),
+    }
+}
+
+/// Remembers that a message is lost.
+fn lose<P: Paper>(server: &mut Server<P>)
+    ensures { IsLost server.old server.new }
+{
+    server.lost = true;
+    server.pending = true;
+}
+
+/// Begins the paper, if it hasn't begun, takes a notification and tells the news. Without memory for the paper, the
+/// notification is lost.
+pub fn take_up<P: Paper>(
+    alloc: Global,
+    server: &mut Server<P>,
+    notice: Notice,
+    message: &Value,
+    ahead: Ahead,
+) -> Vec<Value>
+    ensures { TakenUp P.begins P.text P.shown server.old notice (view message.now) (map view result.items) server.new }
+{
+    match start(alloc, server) {
+        Ok(()) => carry_or_put_off(alloc, server, notice, message, ahead),
+        Err(_) => {
+            lose(server);
+            Vec::new(alloc)
+        }
     }
 }

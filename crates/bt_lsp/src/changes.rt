@@ -4,9 +4,8 @@ ghost use Rattle.std.specs.Prelude.{◌≡◌, [], map, option_map, IfOk};
 ghost use Rattle.serde_json.specs.View.{view, items_of};
 ghost use Rattle.bt_lsp.specs.Changes.{change_between, change_of, changes_with, changes_of};
 
-use crate::parameters::{position_at, text_at};
-use crate::words::bytes_of;
 use bt_documents::Change;
+use bt_places::{bytes_of, position_at, text_at};
 use bt_positions::{Counting, Position};
 use bt_text::Bytes;
 use serde_json::Value;

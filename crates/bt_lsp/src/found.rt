@@ -1,13 +1,11 @@
 //! What is found out for a request: about the stack in a style, and about the run. No contract says what that is; the
 //! answer says exactly this.
 
-use crate::entries::is_style;
 use crate::methods::{CursorQuery, Request, RunQuery};
-use crate::paper::Paper;
-use crate::parameters::{cursor_of, document_of, place_of};
 use bt_documents::Document;
 use bt_effects::stack_notes;
 use bt_lenses::{Lens, Origin};
+use bt_places::{Paper, cursor_of, document_of, is_style, place_of};
 use bt_positions::{Counting, IndexedText, Position};
 use bt_text::{Bytes, Sequence};
 use serde_json::Value;

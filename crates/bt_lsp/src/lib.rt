@@ -5,46 +5,18 @@
 //! nothing here depends on how a session gets them.
 #![tactic(auto)]
 
-mod actions;
 mod announcing;
 mod answering;
 mod carrying;
 mod changes;
-mod citing;
-mod completing;
-mod editor;
-mod entries;
-mod fields;
-mod finding;
-mod folding;
-mod formatting;
+mod complaints;
 mod found;
-mod hints;
-mod hover;
-mod keys;
-mod lensing;
-mod links;
-mod mentioning;
 mod methods;
 mod news;
-mod outline;
-mod paper;
-mod parameters;
-mod picking;
-mod quick_fix;
-mod references;
-mod renaming;
-mod respelling;
+mod progress;
 mod server;
-mod shapes;
-mod style_macros;
 mod styles;
-mod symbols;
 mod taking;
-mod types;
-mod visiting;
-mod words;
+mod watching;
 
-pub use paper::Paper;
 pub use server::Server;
-pub use words::fits_latin;

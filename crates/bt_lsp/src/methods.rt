@@ -32,6 +32,7 @@ pub enum CursorQuery {
 pub enum DocumentQuery {
     Outline,
     Folds,
+    /// Of all items, or of those that the message's range touches.
     Format,
     Actions,
     Links,
@@ -93,6 +94,7 @@ pub fn request_of(method: &str) -> Request
         "textDocument/documentSymbol" => Request::OfDocument(DocumentQuery::Outline),
         "textDocument/foldingRange" => Request::OfDocument(DocumentQuery::Folds),
         "textDocument/formatting" => Request::OfDocument(DocumentQuery::Format),
+        "textDocument/rangeFormatting" => Request::OfDocument(DocumentQuery::Format),
         "textDocument/codeAction" => Request::OfDocument(DocumentQuery::Actions),
         "textDocument/documentLink" => Request::OfDocument(DocumentQuery::Links),
         "bibtex/bbl" => Request::OfPaper(PaperQuery::Bibliography),

@@ -3,30 +3,23 @@
 ghost use Rattle.std.specs.Prelude.{◌≡◌, ◌++◌, ◌∷◌, [], map, IfOk};
 ghost use Rattle.serde_json.specs.View.{view};
 ghost use Rattle.bt_lsp.specs.News.{run_name, shows, shown_of, published_of, warning_params, warning, lost_words, behind_words, warned, warnings, cleared, all_published, news};
-ghost use Rattle.bt_lsp.specs.Shapes.{published};
+ghost use Rattle.bt_places.specs.Shapes.{published};
 
 use crate::announcing::{Announced, with_announced};
-use crate::entries::is_tex;
-use crate::hints::with_hints;
-use crate::keys::keys_of;
 use crate::methods::Notice;
-use crate::paper::Paper;
-use crate::parameters::text_at;
-use crate::shapes::{diagnostic_values, published};
 use crate::styles::with_style_hints;
+use bt_answers::{diagnostics_in, keys_of, with_faults, with_hints};
 use bt_diagnostics::{Diagnostic, diagnostics};
 use bt_documents::Document;
+use bt_places::{Paper, SHOWN_BYTES, is_tex, published, text_at};
 use bt_rpc::notification;
 use bt_style_findings::Checked;
 use bt_text::Sequence;
 use serde_json::{Value, json};
 use std::alloc::{AllocError, Global};
 
-/// The most bytes of a document that is shown with diagnostics or an outline: 1 GiB.
-pub const SHOWN_BYTES: usize = 1_073_741_824;
-
 /// The name that the run has for a document's file; empty if it has none.
-fn run_name<'a, P: Paper>(paper: &'a P, document: &Document) -> &'a [u8]
+pub fn run_name<'a, P: Paper>(paper: &'a P, document: &Document) -> &'a [u8]
     ensures { result.now ≡ run_name (P.shown paper.now) document.now }
 {
     match paper.name(document.name.as_slice()) {
@@ -66,14 +59,16 @@ fn shown_of<P: Paper>(
 
 fn published_of<P: Paper>(
     alloc: Global,
+    relates: bool,
     paper: &P,
     checked: &[Checked],
     document: &Document,
 ) -> Result<Value, AllocError>
-    ensures { IfOk result (λ v. view v ≡ published_of (P.shown paper.now) checked.now document.now) }
+    ensures { IfOk result (λ v. view v ≡ published_of relates (P.shown paper.now) checked.now document.now) }
 {
     let shown = shown_of(alloc, paper, document)?;
-    let list = diagnostic_values(alloc, shown.as_slice())?;
+    let list = diagnostics_in(alloc, relates, document, shown.as_slice())?;
+    let list = with_faults(alloc, paper.messages(), document, list)?;
     let list = with_hints(alloc, paper, document, list)?;
     let list = with_style_hints(alloc, checked, document, list)?;
     published(alloc, document.name.as_slice(), list)
@@ -100,7 +95,7 @@ fn warning_params(alloc: Global, words: &str) -> Result<Value, AllocError>
 }
 
 /// A warning in these words.
-fn warning(alloc: Global, words: &str) -> Result<Value, AllocError>
+pub fn warning(alloc: Global, words: &str) -> Result<Value, AllocError>
     ensures { IfOk result (λ v. view v ≡ warning words.now) }
 {
     let params = warning_params(alloc, words)?;
@@ -158,17 +153,18 @@ pub fn first_news(
 /// Adds the diagnostics of each open document.
 fn with_diagnostics<P: Paper>(
     alloc: Global,
+    relates: bool,
     paper: &P,
     checked: &[Checked],
     documents: &[Document],
     first: Vec<Value>,
 ) -> Result<Vec<Value>, AllocError>
     ensures { IfOk result (λ told. map view told.items ≡
-        map view first.items ++ all_published (P.shown paper.now) checked.now documents.now) }
+        map view first.items ++ all_published relates (P.shown paper.now) checked.now documents.now) }
 {
     let mut told = first;
     'documents: for document in documents {
-        told.push(published_of(alloc, paper, checked, document)?)?;
+        told.push(published_of(alloc, relates, paper, checked, document)?)?;
     }
     Ok(told)
 }
@@ -176,6 +172,7 @@ fn with_diagnostics<P: Paper>(
 /// What comes first, then the diagnostics of each open document, and what is announced.
 pub fn news<P: Paper>(
     alloc: Global,
+    relates: bool,
     paper: &P,
     checked: &[Checked],
     documents: &[Document],
@@ -183,9 +180,9 @@ pub fn news<P: Paper>(
     first: Vec<Value>,
 ) -> Result<Vec<Value>, AllocError>
     ensures { IfOk result (λ told. map view told.items ≡
-        news announced (P.shown paper.now) checked.now documents.now (map view first.items)) }
+        news announced relates (P.shown paper.now) checked.now documents.now (map view first.items)) }
 {
-    let list = with_diagnostics(alloc, paper, checked, documents, first)?;
+    let list = with_diagnostics(alloc, relates, paper, checked, documents, first)?;
     let told = with_announced(alloc, paper, announced, list)?;
     Ok(told)
 }

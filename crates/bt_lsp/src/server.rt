@@ -3,26 +3,24 @@
 ghost use Rattle.std.specs.Prelude.{◌≡◌, map, IfOk, OnErr};
 ghost use Rattle.serde_json.specs.View.{view};
 ghost use Rattle.bt_talk.specs.Replies.{outcome_of};
-ghost use Rattle.bt_lsp.specs.Desk.{duty_of, IsBegun, IsOutcome, IsFoundOutcome, owes, SettledIf};
-ghost use Rattle.bt_lsp.specs.Answering.{answered};
-ghost use Rattle.bt_lsp.specs.Parameters.{offers_bytes};
-ghost use Rattle.bt_lsp.specs.Words.{counting_of};
+ghost use Rattle.bt_lsp.specs.Desk.{duty_of, IsBegun, queried, IsOutcomeBy, IsFoundOutcome, is_behind, greets, is_greeting, IsGreeted, owes, SettledIf};
+ghost use Rattle.bt_places.specs.Parameters.{offers_bytes, takes_plain};
 
 use crate::announcing::{Announced, announced_by};
 use crate::answering::answered;
-use crate::carrying::{carry, take_up};
+use crate::carrying::take_up;
 use crate::found::{Found, found_for};
 use crate::methods::{Notice, Request, notice_of, request_of};
-use crate::paper::Paper;
-use crate::parameters::{has_word_at, text_at};
-use crate::shapes::capabilities;
-use crate::words::counting_of;
+use crate::progress::shows_progress;
+use crate::watching::{greeting, watches_files};
+use bt_answers::shows_related;
 use bt_documents::Document;
+use bt_places::{Editor, Paper, capabilities, counting_of, has_word_at};
 use bt_rpc::RpcError;
 use bt_streams::Ahead;
 use bt_style_findings::Checked;
 use bt_talk::{Desk, Reply};
-use bt_text::Sequence;
+use bt_text::{Bytes, Sequence};
 use serde_json::Value;
 use std::alloc::{AllocError, Global};
 
@@ -55,12 +53,26 @@ pub struct Server<P> {
     pub phase: Phase,
     /// Whether the editor's positions count bytes of UTF-8, and not units of UTF-16.
     pub counts_bytes: bool,
+    /// Whether the editor takes hovers as plain text alone.
+    pub hovers_plain: bool,
     /// Whether a message was lost of which the editor hasn't been warned.
     pub lost: bool,
     /// Whether the paper has yet to read the files again that aren't open.
     pub stale: bool,
     /// Whether there is news that the editor hasn't been told.
     pub pending: bool,
+    /// The message `initialize`, as long as the paper hasn't begun.
+    pub start: Option<Value>,
+    /// Whether the editor shows progress.
+    pub shows_progress: bool,
+    /// Whether the editor watches files for a server, and hasn't been asked for it.
+    pub watches_files: bool,
+    /// Whether the editor shows places related to a diagnostic.
+    pub shows_related: bool,
+    /// Whether the editor was told that the first run begins, and not that it has ended.
+    pub in_progress: bool,
+    /// What the editor was last told of errors about files for which no open document has a place.
+    pub said: Bytes,
     /// What was found in the open styles.
     pub checked: Sequence<Checked>,
     /// What the editor has announced after each change.
@@ -91,6 +103,14 @@ fn offers_bytes(message: &Value) -> bool
     )
 }
 
+/// Whether the editor takes hovers as plain text alone.
+fn takes_plain(message: &Value) -> bool
+    ensures { result ≡ takes_plain (view message.now) }
+{
+    let path = "/params/capabilities/textDocument/hover/contentFormat";
+    has_word_at(message, path, "plaintext") && !has_word_at(message, path, "markdown")
+}
+
 impl<P: Paper> Server<P> {
     /// A desk before `initialize`.
     pub fn new(alloc: Global, paper: P) -> Server<P> {
@@ -99,9 +119,16 @@ impl<P: Paper> Server<P> {
             documents: Sequence::new(alloc),
             phase: Phase::New,
             counts_bytes: false,
+            hovers_plain: false,
             lost: false,
             stale: false,
             pending: false,
+            start: None,
+            shows_progress: false,
+            watches_files: false,
+            shows_related: false,
+            in_progress: false,
+            said: Bytes::new(alloc),
             checked: Sequence::new(alloc),
             announced: Announced {
                 bibliography: false,
@@ -118,25 +145,54 @@ impl<P: Paper> Server<P> {
     }
 }
 
+/// Answers `initialize`. The paper begins with the next message.
 fn begin<P: Paper>(
     alloc: Global,
     server: &mut Server<P>,
     message: &Value,
 ) -> Result<Result<Value, RpcError>, AllocError>
-    ensures ok { IfOk result (λ outcome. IsBegun P.begins (view message.now) server.old (outcome_of outcome) server.new) }
+    ensures ok { IfOk result (λ outcome. IsBegun (view message.now) server.old (outcome_of outcome) server.new) }
     ensures err { OnErr result (server.new ≡ server.old) }
 {
     let counts_bytes = offers_bytes(message);
     let answer = capabilities(alloc, counts_bytes)?;
-    let job = text_at(message, "/params/initializationOptions/job");
-    let folder = text_at(message, "/params/rootUri");
-    server.paper.begin(alloc, job, folder)?;
-    server.documents = Sequence::new(alloc);
+    server.start = Some(message.clone()?);
     server.counts_bytes = counts_bytes;
-    server.stale = false;
+    server.hovers_plain = takes_plain(message);
+    server.shows_progress = shows_progress(message);
+    server.watches_files = watches_files(message);
+    server.shows_related = shows_related(message);
     server.announced = announced_by(message);
     server.phase = Phase::Ready;
     Ok(Ok(answer))
+}
+
+/// The outcome of a request that changes nothing, by what is found out for it.
+fn queried<P: Paper>(
+    alloc: Global,
+    found: &Found,
+    server: &Server<P>,
+    request: Request,
+    message: &Value,
+) -> Result<Result<Value, RpcError>, AllocError>
+    ensures { IfOk result (λ outcome. outcome_of outcome ≡ queried P.shown found.now server.now (view message.now) request) }
+{
+    let editor = Editor {
+        documents: server.documents.as_slice(),
+        checked: server.checked.as_slice(),
+        counting: counting_of(server.counts_bytes),
+    };
+    let plain = server.hovers_plain;
+    let outcome = answered(
+        alloc,
+        found,
+        plain,
+        &server.paper,
+        &editor,
+        request,
+        message,
+    )?;
+    Ok(outcome)
 }
 
 fn outcome_by<P: Paper>(
@@ -146,9 +202,8 @@ fn outcome_by<P: Paper>(
     request: Request,
     message: &Value,
 ) -> Result<Result<Value, RpcError>, AllocError>
-    ensures ok { IfOk result (λ outcome. IsOutcome P.begins (view message.now)
-        (λ r. answered found.now (counting_of server.old.counts_bytes) (P.shown server.old.paper) server.old.documents r (view message.now))
-        server.old.phase request server.old (outcome_of outcome) server.new) }
+    ensures ok { IfOk result (λ outcome. IsOutcomeBy P.shown found.now server.old request (view message.now)
+        (outcome_of outcome) server.new) }
     ensures err { OnErr result (server.new ≡ server.old) }
 {
     match (server.phase, request) {
@@ -159,17 +214,7 @@ fn outcome_by<P: Paper>(
             server.phase = Phase::ShutDown;
             Ok(Ok(Value::Null))
         }
-        (Phase::Ready, query) => {
-            answered(
-                alloc,
-                found,
-                counting_of(server.counts_bytes),
-                &server.paper,
-                server.documents.as_slice(),
-                query,
-                message,
-            )
-        }
+        (Phase::Ready, query) => queried(alloc, found, server, query, message),
     }
 }
 
@@ -180,7 +225,7 @@ fn outcome_for<P: Paper>(
     request: Request,
     message: &Value,
 ) -> Result<Result<Value, RpcError>, AllocError>
-    ensures ok { IfOk result (λ outcome. IsFoundOutcome P.begins P.shown server.old request (view message.now)
+    ensures ok { IfOk result (λ outcome. IsFoundOutcome P.shown server.old request (view message.now)
         (outcome_of outcome) server.new) }
     ensures err { OnErr result (server.new ≡ server.old) }
 {
@@ -188,6 +233,42 @@ fn outcome_for<P: Paper>(
     let documents = server.documents.as_slice();
     let found = found_for(alloc, counting, &server.paper, documents, request, message)?;
     outcome_by(alloc, &found, server, request, message)
+}
+
+/// Whether the paper has yet to begin, or there is news to tell.
+fn is_behind<P: Paper>(server: &Server<P>) -> bool
+    ensures { result ≡ is_behind server.now }
+{
+    server.pending || server.start.is_some()
+}
+
+fn greets(shows: bool, watches: bool) -> bool
+    ensures { result ≡ greets shows watches }
+{
+    shows || watches
+}
+
+/// Whether this is `initialized` from an editor that shows progress or watches files, before the paper has begun.
+fn is_greeting<P: Paper>(server: &Server<P>, method: &str) -> bool
+    ensures { result ≡ is_greeting method.now server.now }
+{
+    method == "initialized"
+        && greets(server.shows_progress, server.watches_files)
+        && server.start.is_some()
+}
+
+/// Says that the first run begins, and which files are to be watched. Without memory, nothing is said.
+fn greet<P: Paper>(alloc: Global, server: &mut Server<P>) -> Vec<Value>
+    ensures { IsGreeted server.old (map view result.items) server.new }
+{
+    match greeting(alloc, server.shows_progress, server.watches_files) {
+        Ok(told) => {
+            server.in_progress = server.shows_progress;
+            server.watches_files = false;
+            told
+        }
+        Err(_) => Vec::new(alloc),
+    }
 }
 
 fn owes(phase: Phase, pending: bool) -> bool
@@ -201,11 +282,11 @@ fn owes(phase: Phase, pending: bool) -> bool
 
 /// Tells the news that the desk owes, before a request is answered.
 fn settle<P: Paper>(alloc: Global, server: &mut Server<P>, message: &Value) -> Vec<Value>
-    ensures { SettledIf P.text P.shown (owes server.old.phase server.old.pending) server.old (view message.now)
+    ensures { SettledIf P.begins P.text P.shown (owes server.old.phase (is_behind server.old)) server.old (view message.now)
         (map view result.items) server.new }
 {
-    if owes(server.phase, server.pending) {
-        carry(alloc, server, Notice::Other, message)
+    if owes(server.phase, is_behind(server)) {
+        take_up(alloc, server, Notice::Other, message, Ahead::Nothing)
     } else {
         Vec::new(alloc)
     }
@@ -216,7 +297,7 @@ impl<P: Paper + Drop> Desk for Server<P> {
 
     ghost answers = { λ d method m outcome told e. Answered P.begins P.text P.shown d method m outcome told e };
 
-    ghost notes = { λ d method m told e. Noted P.text P.shown d method m told e };
+    ghost notes = { λ d method m told e. Noted P.begins P.text P.shown d method m told e };
 
     ghost lost = { λ d e. IsLost d e };
 
@@ -239,8 +320,11 @@ impl<P: Paper + Drop> Desk for Server<P> {
     }
 
     fn note(&mut self, alloc: Global, method: &str, message: &Value, ahead: Ahead) -> Vec<Value> {
+        if is_greeting(self, method) {
+            return greet(alloc, self);
+        }
         let notice = notice_of(method);
-        match duty_of(self.phase, self.pending, notice) {
+        match duty_of(self.phase, is_behind(self), notice) {
             Duty::End => {
                 self.over = true;
                 Vec::new(alloc)

@@ -2,19 +2,20 @@
 
 ghost use Rattle.std.specs.Prelude.{◌≡◌, ◌<◌, ◌*◌, ◌^◌, ◌++◌, length, map, option_map, IfOk};
 ghost use Rattle.serde_json.specs.View.{view};
-ghost use Rattle.bt_style_findings.specs.Checked.{found_for};
-ghost use Rattle.bt_style_findings.specs.Values.{finding};
-ghost use Rattle.bt_lsp.specs.Styles.{style_renamed, said_at, said_of, style_answer_at, style_answer_of, with_style_hints};
+ghost use Rattle.bt_talk.specs.Replies.{outcome_of};
+ghost use Rattle.bt_style_answers.specs.Renaming.{refused_or};
+ghost use Rattle.bt_lsp.specs.Styles.{findings_of, error_of, outcome_for, style_renamed, said_at, said_of, style_answer_at, style_answer_of, with_style_hints};
 
-use crate::entries::is_style;
 use crate::methods::{CursorQuery, DocumentQuery};
-use crate::news::SHOWN_BYTES;
-use crate::parameters::text_at;
 use bt_documents::Document;
+use bt_places::{Editor, SHOWN_BYTES, is_style, text_at, wants_declarations};
 use bt_positions::Position;
+use bt_rpc::RpcError;
 use bt_style_answers::ShownStyle;
 use bt_style_findings::{Checked, check_again, found_for, with_findings};
+use bt_style_text::RenameRefusal;
 use bt_text::Sequence;
+use bt_writing::trials_for;
 use serde_json::Value;
 use std::alloc::{AllocError, Global};
 
@@ -35,19 +36,39 @@ fn shown_style(document: &Document) -> ShownStyle<'_>
     }
 }
 
-/// The edits of a rename; null if there is no new name.
+fn error_of(refusal: RenameRefusal) -> RpcError
+    ensures { result ≡ error_of refusal }
+{
+    match refusal {
+        RenameRefusal::NotDeclared => RpcError::UndeclaredName,
+        RenameRefusal::NoName => RpcError::BadName,
+        RenameRefusal::Taken => RpcError::TakenName,
+    }
+}
+
+/// The outcome of a request that the style may refuse.
+fn outcome_for(answer: Result<Value, RenameRefusal>) -> Result<Value, RpcError>
+    ensures { outcome_of result ≡ outcome_for (refused_or answer) }
+{
+    match answer {
+        Ok(value) => Ok(value),
+        Err(refusal) => Err(error_of(refusal)),
+    }
+}
+
+/// The edits of a rename.
 fn style_renamed(
     alloc: Global,
     style: &ShownStyle<'_>,
     at: Position,
     new: Option<&str>,
-) -> Result<Value, AllocError>
-    ensures { IfOk result (λ v. view v ≡ style_renamed style.now.counting style.now.uri.now
+) -> Result<Result<Value, RpcError>, AllocError>
+    ensures { IfOk result (λ o. outcome_of o ≡ style_renamed style.now.counting style.now.uri.now
         style.now.text.now at (option_map (λ s. s.now) new.entry)) }
 {
     match new {
-        Some(new) => style.rename_at(alloc, at, new.as_bytes()),
-        None => Ok(Value::Null),
+        Some(new) => Ok(outcome_for(style.rename_at(alloc, at, new.as_bytes())?)),
+        None => Ok(Err(RpcError::InvalidParams)),
     }
 }
 
@@ -55,23 +76,27 @@ fn style_renamed(
 fn said_at(
     alloc: Global,
     notes: &[u8],
+    plain: bool,
     query: CursorQuery,
     style: &ShownStyle<'_>,
     at: Position,
     message: &Value,
-) -> Result<Value, AllocError>
-    ensures { IfOk result (λ v. view v ≡ said_at notes.now query style.now.counting style.now.uri.now
+) -> Result<Result<Value, RpcError>, AllocError>
+    ensures { IfOk result (λ o. outcome_of o ≡ said_at notes.now plain query style.now.counting style.now.uri.now
         style.now.text.now at (view message.now)) }
 {
     match query {
-        CursorQuery::Hover => style.hover_at(alloc, at, notes),
-        CursorQuery::Definition => style.definition_at(alloc, at),
-        CursorQuery::References => style.references_at(alloc, at),
+        CursorQuery::Hover => Ok(Ok(style.hover_at(alloc, at, notes, plain)?)),
+        CursorQuery::Definition => Ok(Ok(style.definition_at(alloc, at)?)),
+        CursorQuery::References => {
+            let with_declarations = wants_declarations(message);
+            Ok(Ok(style.references_at(alloc, at, with_declarations)?))
+        }
         CursorQuery::Rename => {
             style_renamed(alloc, style, at, text_at(message, "/params/newName"))
         }
-        CursorQuery::NameRange => style.renamed_range_at(alloc, at),
-        CursorQuery::Completion => style.completion_at(alloc, at),
+        CursorQuery::NameRange => Ok(outcome_for(style.renamed_range_at(alloc, at)?)),
+        CursorQuery::Completion => Ok(Ok(style.completion_at(alloc, at)?)),
     }
 }
 
@@ -79,41 +104,62 @@ fn said_at(
 pub fn style_answer_at(
     alloc: Global,
     notes: &[u8],
+    plain: bool,
     query: CursorQuery,
     document: &Document,
     at: Position,
     message: &Value,
-) -> Result<Value, AllocError>
-    ensures { IfOk result (λ v. view v ≡ style_answer_at notes.now query document.now at (view message.now)) }
+) -> Result<Result<Value, RpcError>, AllocError>
+    ensures { IfOk result (λ o. outcome_of o ≡ style_answer_at notes.now plain query document.now at (view message.now)) }
 {
     if document.text.as_slice().len() > SHOWN_BYTES {
-        return Ok(Value::Null);
+        return Ok(Ok(Value::Null));
     }
-    said_at(alloc, notes, query, &shown_style(document), at, message)
+    said_at(
+        alloc,
+        notes,
+        plain,
+        query,
+        &shown_style(document),
+        at,
+        message,
+    )
 }
 
-fn said_of(alloc: Global, query: DocumentQuery, style: &ShownStyle<'_>) -> Result<Value, AllocError>
-    ensures { IfOk result (λ v. view v ≡ said_of query style.now.counting style.now.text.now) }
+fn said_of(
+    alloc: Global,
+    editor: &Editor<'_>,
+    query: DocumentQuery,
+    document: &Document,
+    message: &Value,
+) -> Result<Value, AllocError>
+    requires { 2 * length document.now.text < 2 ^ 64 }
+    ensures { IfOk result (λ v. view v ≡
+        said_of editor.now.checked.now editor.now.documents.now query document.now (view message.now)) }
 {
     match query {
-        DocumentQuery::Outline => style.symbols(alloc),
-        DocumentQuery::Folds => style.folds(alloc),
-        DocumentQuery::Format | DocumentQuery::Actions | DocumentQuery::Links => { Ok(Value::Null) }
+        DocumentQuery::Outline => shown_style(document).symbols(alloc),
+        DocumentQuery::Folds => shown_style(document).folds(alloc),
+        DocumentQuery::Actions => trials_for(alloc, editor, document, message),
+        DocumentQuery::Format | DocumentQuery::Links => Ok(Value::Null),
     }
 }
 
 /// The answer for a style.
 pub fn style_answer_of(
     alloc: Global,
+    editor: &Editor<'_>,
     query: DocumentQuery,
     document: &Document,
+    message: &Value,
 ) -> Result<Value, AllocError>
-    ensures { IfOk result (λ v. view v ≡ style_answer_of query document.now) }
+    ensures { IfOk result (λ v. view v ≡
+        style_answer_of editor.now.checked.now editor.now.documents.now query document.now (view message.now)) }
 {
     if document.text.as_slice().len() > SHOWN_BYTES {
         return Ok(Value::Null);
     }
-    said_of(alloc, query, &shown_style(document))
+    said_of(alloc, editor, query, document, message)
 }
 
 /// Checks a document, if it is a style whose text is new.
@@ -150,8 +196,7 @@ fn with_found(
     list: Vec<Value>,
 ) -> Result<Vec<Value>, AllocError>
     requires { 2 * length document.now.text < 2 ^ 64 }
-    ensures { IfOk result (λ all. map view all.items ≡ map view list.items ++
-        map (finding document.now.counting document.now.name document.now.text) (found_for document.now.name document.now.text checked.now)) }
+    ensures { IfOk result (λ all. map view all.items ≡ map view list.items ++ findings_of checked.now document.now) }
 {
     let name = document.name.as_slice();
     let text = &document.text;

@@ -3,16 +3,14 @@
 ghost use Rattle.std.specs.Prelude.{◌≡◌, ℕ, List, Option, IfOk, OnErr, option_map};
 ghost use Rattle.serde_json.specs.View.{view};
 ghost use Rattle.bt_documents.specs.Documents.{Follows};
-ghost use Rattle.bt_lsp.specs.Parameters.{document_named};
-ghost use Rattle.bt_lsp.specs.Words.{counting_for};
+ghost use Rattle.bt_places.specs.Parameters.{document_named};
+ghost use Rattle.bt_places.specs.Words.{counting_for};
 ghost use Rattle.bt_lsp.specs.Taken.{IsOpened, IsChanged, IsClosed, Taken};
 
 use crate::changes::changes_of;
 use crate::methods::Notice;
-use crate::paper::Paper;
-use crate::parameters::{text_at, version_at};
-use crate::words::bytes_of;
 use bt_documents::{Document, change, close, open};
+use bt_places::{Paper, bytes_of, text_at, version_at};
 use bt_positions::Counting;
 use bt_text::Sequence;
 use serde_json::Value;

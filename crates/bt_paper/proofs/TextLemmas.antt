@@ -1,48 +1,31 @@
 -- What an edit of a session does to the texts of names.
-use Rattle.std.proofs.Common.{◌≡◌, ◌∙◌, ap, sym, refl, subst, ℕ, Bool, true, false, List, [], Option, Some, None, option_map, Bor, Ok}
+use Rattle.std.proofs.Common.{◌≡◌, ◌∙◌, ap, sym, refl, subst, ℕ, Bool, true, false, List, [], Option, Some, None, option_map, Bor}
 use Rattle.std.specs.Prelude.{if◌then◌else◌, bytes_eq, unwrap_or, IsTrue}
 use Rattle.bt_job.specs.declared.files.File.{File}
 use Rattle.bt_job.specs.FileNames.{text_of}
 use Rattle.bibtex.specs.declared.state.State.{State}
-use Rattle.bibtex.specs.declared.edit.Refusal.{Refusal}
-use Rattle.bibtex.specs.Edit.{write, splice, remove}
-use Rattle.bibtex.specs.Applied.{applied, changed}
-use Rattle.bibtex.specs.inner.Cases.{unless_refused, replaced}
+use Rattle.bibtex.specs.Present.{with_text}
+use Rattle.bibtex.specs.inner.Cases.{without}
 use Rattle.bibtex.proofs.TextLemmas.{same_name, flipped, put_is, text_of_put, text_of_without}
 use Rattle.bt_paper.specs.declared.known.Known.{Known}
 use Rattle.bt_paper.specs.Known.{name_of}
 use Rattle.bt_paper.specs.Paper.{text_under, text_at, GivesText, OthersStay, KeepsTexts, KeepsOthers, IsOfJob, KeepsJob}
 use Rattle.bt_paper.proofs.KnownLemmas.{not_none, is_itself, names_apart}
 
-unless_ok : (r : Option Refusal) (s t : State) → unless_refused r s ≡ Ok t → s ≡ t
-unless_ok None s t e = cc
-unless_ok (Some r) s t e = absurd (cc)
-
 -- a text that was written
-pub text_written : (name new : List ℕ) (s t : State) → applied (write name new) s ≡ Ok t → GivesText name new s t
+pub text_written : (name new : List ℕ) (s t : State) → t ≡ record s { texts = with_text name new s.texts } → GivesText name new s t
 text_written name new s t e other =
-    ap (λ (x : State). text_of x.texts other) (sym (unless_ok _ (changed (write name new) s) t e)) ∙
+    ap (λ (x : State). text_of x.texts other) e ∙
     ap (λ fs. text_of fs other) (put_is (record { name = name; text = new }) s.texts) ∙ text_of_put (record { name = name; text = new }) s.texts other
 
--- a text of which a part was replaced
-pub text_spliced : (name bytes old : List ℕ) (start end : ℕ) (s t : State) → applied (splice name start end bytes) s ≡ Ok t → text_of s.texts name ≡ Some old →
-    GivesText name (replaced start end bytes old) s t
-text_spliced name bytes old start end s t e is other =
-    let file : File = record { name = name; text = replaced start end bytes (unwrap_or (text_of s.texts name) []) } in
-    ap (λ (x : State). text_of x.texts other) (sym (unless_ok _ (changed (splice name start end bytes) s) t e)) ∙
-    ap (λ fs. text_of fs other) (put_is file s.texts) ∙ text_of_put file s.texts other ∙
-    ap (λ o. if bytes_eq name other then Some (replaced start end bytes (unwrap_or o [])) else text_of s.texts other) is
-
 -- a file that was taken away
-pub text_removed : (name : List ℕ) (s t : State) → applied (remove name) s ≡ Ok t → OthersStay name s t
+pub text_removed : (name : List ℕ) (s t : State) → t ≡ record s { texts = without name s.texts } → OthersStay name s t
 text_removed name s t e other apart =
-    ap (λ (x : State). text_of x.texts other) (sym (unless_ok _ (changed (remove name) s) t e)) ∙ text_of_without name s.texts other ∙ rw apart refl
+    ap (λ (x : State). text_of x.texts other) e ∙ text_of_without name s.texts other ∙ rw apart refl
 
 -- a job whose texts alone change
-pub job_written : (name new : List ℕ) (s t : State) → applied (write name new) s ≡ Ok t → KeepsJob s t
-job_written name new s t e =
-    let is = unless_ok _ (changed (write name new) s) t e in
-    (sym (ap (λ (x : State). x.root) is), sym (ap (λ (x : State). x.min) is))
+pub job_written : (name new : List ℕ) (s t : State) → t ≡ record s { texts = with_text name new s.texts } → KeepsJob s t
+job_written name new s t e = (ap (λ (x : State). x.root) e, ap (λ (x : State). x.min) e)
 
 pub job_stays : (s t : State) → t ≡ s → KeepsJob s t
 job_stays s t e = (ap (λ (x : State). x.root) e, ap (λ (x : State). x.min) e)

@@ -1,20 +1,13 @@
--- What a session shows to the desk.
-use Rattle.std.specs.Prelude.{◌≡◌, ℕ, Bool, true, false, if◌then◌else◌, List, [], ◌∷◌, map, length, bytes_eq, Option, Some, None, unwrap_or}
+-- What a session over an author's files shows to the desk.
+use Rattle.std.specs.Prelude.{◌≡◌, ℕ, Bool, true, false, if◌then◌else◌, List, [], ◌∷◌, map, length, ◌==◌, bytes_eq, Option, Some, None, unwrap_or}
 use Rattle.bt_log.specs.declared.message.Message.{Message}
 use Rattle.bt_job.specs.FileNames.{text_of}
-use Rattle.bt_run.specs.Meaning.{trace}
 use Rattle.bibtex.specs.declared.state.State.{State}
-use Rattle.std.specs.Option.{is_some}
-use Rattle.bibtex.specs.Present.{shown, is_root_name}
-use Rattle.bibtex.specs.Applied.{write_refusal}
-use Rattle.bibtex.specs.declared.edit.Refusal.{Refusal}
-use Rattle.bibtex.specs.declared.edit.Refusal.TheVariants.{BadName, NoSuchFile, RangeOutside, FileTooLarge, TooManyFiles, OutOfMemory}
-use Rattle.bt_documents.specs.declared.files.Written.{Written}
-use Rattle.bt_documents.specs.declared.files.Written.TheVariants.{Refused, Waiting}
 use Rattle.bibtex.specs.EntryText.{entry_text}
+use Rattle.bt_session.specs.Author.{shown, steps_of, is_full_for}
 use Rattle.bt_documents.specs.declared.document.Document.{Document}
 use Rattle.bt_paper.specs.declared.known.Known.{Known}
-use Rattle.bt_lsp.specs.Shown.{Shown as Sight}
+use Rattle.bt_places.specs.Shown.{Shown as Sight}
 use Rattle.bt_paper.specs.Known.{name_of}
 
 -- a session's text of a name, if there are a session and a name
@@ -27,24 +20,15 @@ text_under (Some s) (Some name) = text_of s.texts name
 abbrev pub text_at : Option State → List Known → List ℕ → Option (List ℕ)
 text_at session known uri = text_under session (name_of known uri)
 
--- whether a session doesn't admit a text for a file of this name, or there is no session or no file
-abbrev pub refuses_under : Option State → Option (List ℕ) → List ℕ → Bool
-refuses_under None name new = true
-refuses_under (Some s) None new = true
-refuses_under (Some s) (Some name) new = is_some (write_refusal s.texts name (length new))
+-- whether a session has no room for a file of this name, or there is no session or no file
+abbrev pub refuses_under : Option State → Option (List ℕ) → Bool
+refuses_under None name = true
+refuses_under (Some s) None = true
+refuses_under (Some s) (Some name) = is_full_for s.texts name
 
--- whether the file at a URI is none of the job, or the session doesn't admit a text for it
-abbrev pub refuses_at : Option State → List Known → List ℕ → List ℕ → Bool
-refuses_at session known uri new = refuses_under session (name_of known uri) new
-
--- what a refusal comes to
-abbrev pub written_of : Refusal → Written
-written_of BadName = Refused
-written_of NoSuchFile = Refused
-written_of RangeOutside = Refused
-written_of FileTooLarge = Refused
-written_of TooManyFiles = Refused
-written_of OutOfMemory = Waiting
+-- whether the file at a URI is none of the job, or the session has no room for it; a text of any size is admitted
+abbrev pub refuses_at : Option State → List Known → List ℕ → Bool
+refuses_at session known uri = refuses_under session (name_of known uri)
 
 -- the messages of the run
 abbrev pub messages_of : Option State → List Message
@@ -69,7 +53,7 @@ status_of (Some s) = (shown s).status
 -- what the entry of a key prints
 abbrev pub entry_of : Option State → List ℕ → List ℕ
 entry_of None key = []
-entry_of (Some s) key = entry_text key (trace s.texts s.root s.min)
+entry_of (Some s) key = entry_text key (steps_of s)
 
 -- a file's URI and its text, which is empty if the run has none
 abbrev pub file_of : Option State → Known → List ℕ × List ℕ
@@ -92,9 +76,9 @@ shown_of session known =
       status = status_of session;
     }
 
--- A session runs the job of a name, with min-crossrefs 2 as BibTeX has it. There is none if that can't be a job's name.
+-- A session runs the job of a name, with min-crossrefs 2 as BibTeX has it. There is none if no job is named.
 abbrev pub IsOfJob : List ℕ → Option State → Type 0
-IsOfJob root None = is_root_name root ≡ false
+IsOfJob root None = (length root == 0) ≡ true
 IsOfJob root (Some s) = (s.root ≡ root) × (s.min ≡ 2)
 
 -- the job stays

@@ -5,10 +5,9 @@ ghost use Rattle.bt_paper.specs.Paper.{IsOfJob, KeepsJob};
 
 use crate::finding::{Found, find};
 use crate::folders::{Folder, folder_at, folder_of};
-use crate::giving::{refused, taken};
 use crate::known::{Known, note};
 use crate::library::Library;
-use bibtex::{Draft, Edit, Session, is_root_name};
+use bt_session::{AuthorDraft, AuthorSession};
 use bt_text::Sequence;
 use std::alloc::{AllocError, Global};
 
@@ -34,13 +33,14 @@ pub fn all_folders(
 }
 
 /// Gives a draft a file. Says whether the draft took it.
-fn write(draft: &mut Draft, name: &[u8], text: &[u8]) -> Result<bool, AllocError>
+fn write(draft: &mut AuthorDraft, name: &[u8], text: &[u8]) -> Result<bool, AllocError>
     ensures { KeepsJob draft.old draft.new }
 {
-    match draft.edit(Edit::Write(name, text)) {
-        Ok(()) => Ok(true),
-        Err(refusal) => taken(refused(refusal)),
+    if draft.is_full_for(name) {
+        return Ok(false);
     }
+    draft.write(name, text)?;
+    Ok(true)
 }
 
 /// Gives a draft the file of a name, if it is found. Says whether the draft took it.
@@ -48,7 +48,7 @@ fn add<L: Library>(
     alloc: Global,
     library: &L,
     folders: &[Folder],
-    draft: &mut Draft,
+    draft: &mut AuthorDraft,
     known: &mut Sequence<Known>,
     name: &[u8],
 ) -> Result<bool, AllocError>
@@ -66,7 +66,7 @@ fn fill<L: Library>(
     alloc: Global,
     library: &L,
     folders: &[Folder],
-    draft: &mut Draft,
+    draft: &mut AuthorDraft,
     known: &mut Sequence<Known>,
 ) -> Result<bool, AllocError>
     ensures { KeepsJob draft.old draft.new }
@@ -86,12 +86,10 @@ fn filled<L: Library>(
     folders: &[Folder],
     root: &[u8],
     known: &mut Sequence<Known>,
-) -> Result<Draft, AllocError>
+) -> Result<AuthorDraft, AllocError>
     ensures { IfOk result (λ draft. (draft.root ≡ root.now) × (draft.min ≡ 2)) }
 {
-    let Ok(mut draft) = Draft::new(alloc, root, 2) else {
-        return Err(AllocError);
-    };
+    let mut draft = AuthorDraft::new(alloc, root, 2)?;
     'rounds: for _ in 0..ROUNDS {
         if !fill(alloc, library, folders, &mut draft, known)? {
             break;
@@ -100,19 +98,19 @@ fn filled<L: Library>(
     Ok(draft)
 }
 
-/// The session of a job, whose files are read and run once. There is none if the job's name can't be one.
+/// The session of a job, whose files are read and run once. There is none if the job isn't named.
 pub fn begun<L: Library>(
     alloc: Global,
     library: &L,
     folders: &[Folder],
     root: &[u8],
     known: &mut Sequence<Known>,
-) -> Result<Option<Session>, AllocError>
+) -> Result<Option<AuthorSession>, AllocError>
     ensures { IfOk result (λ session. IsOfJob root.now session) }
 {
-    if !is_root_name(root) {
+    if root.is_empty() {
         return Ok(None);
     }
     let draft = filled(alloc, library, folders, root, known)?;
-    Ok(Some(Session::of(draft)?))
+    Ok(Some(AuthorSession::of(draft)?))
 }

@@ -19,14 +19,13 @@ fn found_in<L: Library>(
     folder: &Folder,
     name: &str,
 ) -> Result<Option<Found>, AllocError> {
-    let mut path = String::from_str(alloc, folder.path.as_str())?;
-    path.push_str(name)?;
+    let path = folder.path_of(alloc, name)?;
     let Some(text) = library.read(alloc, path.as_str())? else {
         return Ok(None);
     };
     let file = Known {
         name: Bytes::copied(alloc, name.as_bytes())?,
-        uri: Bytes::of(alloc, &[folder.uri.as_slice(), name.as_bytes()])?,
+        uri: folder.uri_of(alloc, name)?,
         path,
     };
     Ok(Some(Found { file, text }))

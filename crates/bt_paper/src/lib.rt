@@ -1,4 +1,4 @@
-//! A paper for the desk of the language server: a session, and where its files lie.
+//! A paper for the desk of the language server: a session over the author's files, and where these lie.
 //!
 //! The session knows files by their names in the texts, an editor by their URIs. The files that were found join the two.
 //! Of several files with one name only the first counts, so no two URIs have one name: a text that is given to one file
@@ -6,7 +6,6 @@
 #![tactic(auto)]
 
 mod beginning;
-mod differing;
 mod finding;
 mod folders;
 mod giving;

@@ -1,15 +1,15 @@
 //! What the run made of a file, and where a byte of its bibliography comes from.
 
 use crate::known::{Known, name_of, uri_named};
-use bibtex::Session;
 use bt_lenses::{FileLine, Lens, Origin, Ran, lenses, origin_at};
 use bt_origins::NamedText;
+use bt_session::AuthorSession;
 use bt_text::{Bytes, Sequence};
 use std::alloc::{AllocError, Global};
 
 fn named<'a>(
     alloc: Global,
-    session: &'a Session,
+    session: &'a AuthorSession,
     known: &'a [Known],
 ) -> Result<Vec<NamedText<'a>>, AllocError> {
     let mut files = Vec::new(alloc);
@@ -22,7 +22,7 @@ fn named<'a>(
     Ok(files)
 }
 
-fn ran_of<'a>(alloc: Global, session: &'a Session, files: &'a [NamedText<'a>]) -> Ran<'a> {
+fn ran_of<'a>(alloc: Global, session: &'a AuthorSession, files: &'a [NamedText<'a>]) -> Ran<'a> {
     Ran {
         alloc,
         files,
@@ -36,7 +36,7 @@ fn ran_of<'a>(alloc: Global, session: &'a Session, files: &'a [NamedText<'a>]) -
 /// What stands over lines of the file at a URI.
 pub fn lenses_at(
     alloc: Global,
-    session: &Session,
+    session: &AuthorSession,
     known: &[Known],
     uri: &[u8],
 ) -> Result<Sequence<Lens>, AllocError> {
@@ -77,7 +77,7 @@ fn under_uris(alloc: Global, known: &[Known], origin: Origin) -> Result<Origin, 
 /// Where a byte of the bibliography comes from. Its files are URIs.
 pub fn origin_of(
     alloc: Global,
-    session: &Session,
+    session: &AuthorSession,
     known: &[Known],
     line: usize,
     column: usize,

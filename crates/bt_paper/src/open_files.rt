@@ -6,8 +6,8 @@ ghost use Rattle.bt_paper.specs.Paper.{text_at, is_among, KeepsTexts, KeepsOther
 use crate::finding::Found;
 use crate::giving::{give, lacks, replace, taken};
 use crate::known::{Known, name_of, note};
-use bibtex::Session;
 use bt_documents::{Document, Written};
+use bt_session::AuthorSession;
 use bt_text::{Bytes, Sequence};
 use std::alloc::{AllocError, Global};
 
@@ -26,7 +26,7 @@ pub fn is_among(documents: &[Document], name: &[u8]) -> bool
 /// Gives a session a file, if it has none of its name. Says whether it took it.
 pub fn add(
     alloc: Global,
-    session: &mut Session,
+    session: &mut AuthorSession,
     known: &mut Sequence<Known>,
     found: Found,
 ) -> Result<bool, AllocError>
@@ -43,7 +43,12 @@ pub fn add(
 }
 
 /// Gives the file at a URI the text that was read for it, or takes the file away if there is none. Says what the session did.
-pub fn reread(session: &mut Session, known: &[Known], uri: &[u8], text: Option<Bytes>) -> Written
+pub fn reread(
+    session: &mut AuthorSession,
+    known: &[Known],
+    uri: &[u8],
+    text: Option<Bytes>,
+) -> Written
     ensures { KeepsOthers uri.now (text_at (Some session.old) known.now) (text_at (Some session.new) known.now) }
 {
     let Some(name) = name_of(known, uri) else {

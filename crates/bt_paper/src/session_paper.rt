@@ -2,7 +2,7 @@
 
 ghost use Rattle.std.specs.Prelude.{IsTrue};
 ghost use Rattle.bt_documents.specs.Documents.{Follows};
-ghost use Rattle.bt_lsp.specs.Words.{fits_latin};
+ghost use Rattle.bt_places.specs.Words.{fits_latin};
 ghost use Rattle.bt_paper.specs.Paper.{text_at, KeepsTexts};
 
 use crate::beginning::{ROUNDS, all_folders, begun};
@@ -13,13 +13,14 @@ use crate::known::{Known, name_of};
 use crate::library::Library;
 use crate::looking::{lenses_at, origin_of};
 use crate::open_files::{add, is_among, reread};
-use bibtex::Session;
 use bt_documents::{Document, Files, Written};
 use bt_lenses::{Lens, Origin};
 use bt_log::Message;
-use bt_lsp::{Paper, fits_latin};
+use bt_places::{Paper, fits_latin};
+use bt_session::AuthorSession;
 use bt_text::{Bytes, Sequence};
 use std::alloc::{AllocError, Global};
+use std::mem;
 
 /// What the command line says.
 #[derive(Drop)]
@@ -37,12 +38,12 @@ pub struct SessionPaper<L> {
     pub library: L,
     pub options: Options,
     pub folders: Vec<Folder>,
-    pub session: Option<Session>,
+    pub session: Option<AuthorSession>,
     pub known: Sequence<Known>,
 }
 
 /// Copies, since the session changes while the files of these names are added.
-fn wanted(alloc: Global, session: &Option<Session>) -> Result<Sequence<Bytes>, AllocError> {
+fn wanted(alloc: Global, session: &Option<AuthorSession>) -> Result<Sequence<Bytes>, AllocError> {
     let mut names = Sequence::new(alloc);
     if let Some(session) = session {
         'names: for name in session.wanted() {
@@ -139,7 +140,7 @@ impl<L: Library> Files for SessionPaper<L> {
 
     ghost text = { λ paper uri. text_at paper.session paper.known uri };
 
-    ghost refuses = { λ paper uri new. refuses_at paper.session paper.known uri new };
+    ghost refuses = { λ paper uri new. refuses_at paper.session paper.known uri };
 
     fn write(&mut self, name: &[u8], new: &[u8]) -> Written {
         let Some(own) = name_of(self.known.as_slice(), name) else {
@@ -254,9 +255,10 @@ impl<L: Library> Paper for SessionPaper<L> {
         let root = job.unwrap_or(self.options.job.as_str());
         let mut known = Sequence::new(alloc);
         let session = begun(alloc, &self.library, &folders, root.as_bytes(), &mut known)?;
+        // An assignment would drop the old one here, which takes long to prove.
+        drop(mem::replace(&mut self.session, session));
         self.folders = folders;
         self.known = known;
-        self.session = session;
         Ok(())
     }
 

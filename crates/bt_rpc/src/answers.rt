@@ -20,12 +20,14 @@ pub enum RpcError {
     InternalError,
     /// A request before `initialize`. The code is the Language Server Protocol's, as are those of the rest.
     ServerNotInitialized,
-    /// A rename is refused: a key or a macro can't have this name.
+    /// A rename is refused: what is renamed can't have this name.
     BadName,
     /// A rename is refused: something else has this name.
     TakenName,
     /// A rename is refused: no file that it edits defines the macro, so all its uses would become undefined.
     UndefinedMacro,
+    /// A rename is refused: the style doesn't declare this name.
+    UndeclaredName,
 }
 
 fn code_of(error: RpcError) -> i64
@@ -38,7 +40,8 @@ fn code_of(error: RpcError) -> i64
         RpcError::InvalidParams => -32602,
         RpcError::InternalError => -32603,
         RpcError::ServerNotInitialized => -32002,
-        RpcError::BadName | RpcError::TakenName | RpcError::UndefinedMacro => -32803,
+        RpcError::BadName | RpcError::TakenName => -32803,
+        RpcError::UndefinedMacro | RpcError::UndeclaredName => -32803,
     }
 }
 
@@ -52,9 +55,10 @@ fn words_of(error: RpcError) -> &'static str
         RpcError::InvalidParams => "the method's parameters are wrong",
         RpcError::InternalError => "out of memory, or the message is too large",
         RpcError::ServerNotInitialized => "the server isn't initialized",
-        RpcError::BadName => "no key or macro can have this name",
+        RpcError::BadName => "this can't be a name",
         RpcError::TakenName => "this name is taken",
         RpcError::UndefinedMacro => "no database defines this macro: it is the style's",
+        RpcError::UndeclaredName => "the style doesn't declare this name",
     }
 }
 

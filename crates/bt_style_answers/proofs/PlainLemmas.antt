@@ -1,5 +1,5 @@
 -- What is answered has no floats.
-use Rattle.std.proofs.Common.{◌≡◌, ℕ, List, [], ◌∷◌, ◌++◌, map, refl, false, Option, Some, None, Result, Ok, Err}
+use Rattle.std.proofs.Common.{◌≡◌, ℕ, List, [], ◌∷◌, ◌++◌, map, refl, Bool, false, Option, Some, None, Result, Ok, Err}
 use Rattle.std.specs.List.{AllByRecursion}
 use Rattle.std.specs.Prelude.{filter_map}
 use Rattle.serde_json.specs.Written.{has_float, items_have_float}
@@ -25,14 +25,15 @@ use Rattle.bt_style_text.specs.Completing.{offer_at, offered}
 use Rattle.bt_style_text.specs.Renaming.{rename}
 use Rattle.bt_style_text.specs.Hover.{hover_of}
 use Rattle.bt_effects.specs.Words.{with_notes}
-use Rattle.bt_style_answers.specs.References.{mark_location, maybe_location, definition_at, references_at}
+use Rattle.bt_style_answers.specs.declared.references.Lent.{Lent}
+use Rattle.bt_style_answers.specs.References.{mark_location, maybe_location, definition_at, asked_of, references_at, meant, with_mark, with_declaration}
 use Rattle.bt_style_answers.specs.Hovering.{shown_words, hover_at}
 use Rattle.bt_style_answers.specs.Outline.{symbol_of, symbols_in}
 use Rattle.bt_style_text.specs.Hinting.{unused, declarations, unknown}
 use Rattle.bt_style_answers.specs.Hinting.{unused_at, unknown_at, unused_in, unknown_in, hints_in}
 use Rattle.bt_style_answers.specs.Folding.{fold_of, folds_of, folds_in, line_of}
 use Rattle.bt_style_answers.specs.Completion.{written_at, builtin_item, builtin_items, command_item, command_items, mark_item, offered_items, completion_at}
-use Rattle.bt_style_answers.specs.Renaming.{edit_of, edits_or_null, rename_at, range_or_null, renamed_range_at}
+use Rattle.bt_style_answers.specs.Renaming.{edit_of, edits_or_refusal, rename_at, range_or_refusal, renamed_range_at}
 
 -- ---- references
 
@@ -43,19 +44,27 @@ location_plain c uri words (Some mark) = refl
 pub definition_plain : (c : Counting) (uri words : List ℕ) (at : Position) → has_float (definition_at c uri words at) ≡ false
 definition_plain c uri words at = location_plain c uri words (definition words (marks_of words) (offset_of c at words))
 
-pub references_plain : (c : Counting) (uri words : List ℕ) (at : Position) → has_float (references_at c uri words at) ≡ false
-references_plain c uri words at =
-    let found = references words (marks_of words) (offset_of c at words) in
+pub references_plain : (c : Counting) (uri words : List ℕ) (at : Position) (declared : Bool) → has_float (references_at c uri words at declared) ≡ false
+references_plain c uri words at declared =
+    let found = asked_of (references words (marks_of words) (offset_of c at words)) declared in
     items_plain (map (mark_location c uri words) found) (all_mapped (mark_location c uri words) (λ m. refl) found)
+
+mark_plain : (c : Counting) (uri words : List ℕ) (list : List Data) (mark : Option Mark) → AllByRecursion IsPlain list → AllByRecursion IsPlain (with_mark c uri words list mark)
+mark_plain c uri words list None p = p
+mark_plain c uri words list (Some m) p = all_both IsPlain list (mark_location c uri words m ∷ []) p (refl, tt)
+
+pub declaration_plain : (c : Counting) (uri words : List ℕ) (lent : Lent) (name : List ℕ) (list : List Data) → AllByRecursion IsPlain list →
+    AllByRecursion IsPlain (with_declaration c uri words lent name list)
+declaration_plain c uri words lent name list p = mark_plain c uri words list (meant words (marks_of words) lent name) p
 
 -- ---- hover
 
-words_plain : (words : List ℕ) → has_float (shown_words words) ≡ false
-words_plain [] = refl
-words_plain (b ∷ words) = refl
+words_plain : (plain : Bool) (words : List ℕ) → has_float (shown_words plain words) ≡ false
+words_plain plain [] = refl
+words_plain plain (b ∷ words) = refl
 
-pub hover_plain : (c : Counting) (words : List ℕ) (at : Position) (notes : List ℕ) → has_float (hover_at c words at notes) ≡ false
-hover_plain c words at notes = words_plain (with_notes (hover_of words (marks_of words) (offset_of c at words)) notes)
+pub hover_plain : (plain : Bool) (c : Counting) (words : List ℕ) (at : Position) (notes : List ℕ) → has_float (hover_at plain c words at notes) ≡ false
+hover_plain plain c words at notes = words_plain plain (with_notes (hover_of words (marks_of words) (offset_of c at words)) notes)
 
 -- ---- symbols and folds
 
@@ -95,21 +104,26 @@ completion_plain c words at =
 
 -- ---- renaming
 
-edits_plain : (c : Counting) (uri words new : List ℕ) (renamed : Result (List Mark) RenameRefusal) → has_float (edits_or_null c uri words new renamed) ≡ false
+-- an outcome without floats
+abbrev pub OutcomeIsPlain : Result Data RenameRefusal → Type 0
+OutcomeIsPlain (Ok d) = has_float d ≡ false
+OutcomeIsPlain (Err refusal) = Unit {0}
+
+edits_plain : (c : Counting) (uri words new : List ℕ) (renamed : Result (List Mark) RenameRefusal) → OutcomeIsPlain (edits_or_refusal c uri words new renamed)
 edits_plain c uri words new (Ok marks) =
     let p : items_have_float (items_of (map (edit_of c words new) marks)) ≡ false =
     items_plain (map (edit_of c words new) marks) (all_mapped (edit_of c words new) (λ m. refl) marks) in rw p refl
-edits_plain c uri words new (Err refusal) = refl
+edits_plain c uri words new (Err refusal) = tt
 
-pub rename_plain : (c : Counting) (uri words : List ℕ) (at : Position) (new : List ℕ) → has_float (rename_at c uri words at new) ≡ false
+pub rename_plain : (c : Counting) (uri words : List ℕ) (at : Position) (new : List ℕ) → OutcomeIsPlain (rename_at c uri words at new)
 rename_plain c uri words at new = edits_plain c uri words new (rename words (marks_of words) (offset_of c at words) new)
 
-range_plain : (c : Counting) (words : List ℕ) (mark declaration : Option Mark) → has_float (range_or_null c words mark declaration) ≡ false
+range_plain : (c : Counting) (words : List ℕ) (mark declaration : Option Mark) → OutcomeIsPlain (range_or_refusal c words mark declaration)
 range_plain c words (Some mark) (Some declaration) = refl
-range_plain c words (Some mark) None = refl
+range_plain c words (Some mark) None = tt
 range_plain c words None declaration = refl
 
-pub renamed_range_plain : (c : Counting) (words : List ℕ) (at : Position) → has_float (renamed_range_at c words at) ≡ false
+pub renamed_range_plain : (c : Counting) (words : List ℕ) (at : Position) → OutcomeIsPlain (renamed_range_at c words at)
 renamed_range_plain c words at =
     range_plain c words (name_at (offset_of c at words) (marks_of words)) (definition words (marks_of words) (offset_of c at words))
 

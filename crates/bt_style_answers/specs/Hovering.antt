@@ -1,5 +1,5 @@
 -- What is shown of the name under the cursor.
-use Rattle.std.specs.Prelude.{ℕ, List, [], ◌∷◌, codes}
+use Rattle.std.specs.Prelude.{ℕ, Bool, if◌then◌else◌, List, [], ◌∷◌, codes}
 use Rattle.serde_json.specs.Data.{Data, null, string, object, member, no_members}
 use Rattle.bt_positions.specs.Positions.{offset_of}
 use Rattle.bt_positions.specs.declared.counting.Counting.{Counting}
@@ -9,16 +9,20 @@ use Rattle.bt_style_text.specs.Hover.{hover_of}
 use Rattle.bt_effects.specs.Words.{with_notes}
 use Rattle.bt_shapes.specs.Shapes.{text}
 
--- words in Markdown
-abbrev pub markdown : List ℕ → Data
-markdown words =
-    object (member (codes "contents") (object (member (codes "kind") (string (codes "markdown"))
+-- the format of words, as the protocol calls it
+abbrev pub kind_of : Bool → List ℕ
+kind_of plain = if plain then codes "plaintext" else codes "markdown"
+
+-- words as plain text or in Markdown
+abbrev pub contents : Bool → List ℕ → Data
+contents plain words =
+    object (member (codes "contents") (object (member (codes "kind") (string (kind_of plain))
     (member (codes "value") (text words) no_members))) no_members)
 
-abbrev pub shown_words : List ℕ → Data
-shown_words [] = null
-shown_words (b ∷ words) = markdown (b ∷ words)
+abbrev pub shown_words : Bool → List ℕ → Data
+shown_words plain [] = null
+shown_words plain (b ∷ words) = contents plain (b ∷ words)
 
 -- what is shown of the name at a position, and the notes below; null if there is nothing to say
-abbrev pub hover_at : Counting → List ℕ → Position → List ℕ → Data
-hover_at c words at notes = shown_words (with_notes (hover_of words (marks_of words) (offset_of c at words)) notes)
+abbrev pub hover_at : Bool → Counting → List ℕ → Position → List ℕ → Data
+hover_at plain c words at notes = shown_words plain (with_notes (hover_of words (marks_of words) (offset_of c at words)) notes)

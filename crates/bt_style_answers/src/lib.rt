@@ -10,4 +10,5 @@ mod references;
 mod renaming;
 mod shown_style;
 
+pub use references::Lent;
 pub use shown_style::ShownStyle;

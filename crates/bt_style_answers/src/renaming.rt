@@ -2,7 +2,7 @@
 
 ghost use Rattle.std.specs.Prelude.{◌≡◌, map, IfOk};
 ghost use Rattle.serde_json.specs.View.{view};
-ghost use Rattle.bt_style_answers.specs.Renaming.{edit_of, changed, edits_or_null, rename_at, range_or_null, renamed_range_at};
+ghost use Rattle.bt_style_answers.specs.Renaming.{refused_or, edit_of, changed, edits_or_refusal, rename_at, range_or_refusal, renamed_range_at};
 
 use crate::shown_style::ShownStyle;
 use bt_positions::Position;
@@ -41,62 +41,75 @@ impl ShownStyle<'_> {
         Ok(list)
     }
 
-    fn edits_or_null(
+    fn edits_or_refusal(
         &self,
         alloc: Global,
         new: &[u8],
         renamed: Result<Sequence<Mark>, RenameRefusal>,
-    ) -> Result<Value, AllocError>
-        ensures { IfOk result (λ v. view v
-            ≡ edits_or_null self.now.counting self.now.uri.now self.now.text.now new.now renamed) }
+    ) -> Result<Result<Value, RenameRefusal>, AllocError>
+        ensures { IfOk result (λ r. refused_or r
+            ≡ edits_or_refusal self.now.counting self.now.uri.now self.now.text.now new.now renamed) }
     {
         match renamed {
             Ok(marks) => {
                 let edits = self.edits_of(alloc, new, marks.as_slice())?;
                 let value = changed(alloc, self.uri, edits)?;
-                Ok(value)
+                Ok(Ok(value))
             }
-            Err(_) => Ok(Value::Null),
+            Err(refusal) => Ok(Err(refusal)),
         }
     }
 
-    /// The edits that give the name at a position a new one; null if it can't have this one.
-    pub fn rename_at(&self, alloc: Global, at: Position, new: &[u8]) -> Result<Value, AllocError>
-        ensures { IfOk result (λ v. view v
+    /// The edits that give the name at a position a new one, or why it can't have this one.
+    pub fn rename_at(
+        &self,
+        alloc: Global,
+        at: Position,
+        new: &[u8],
+    ) -> Result<Result<Value, RenameRefusal>, AllocError>
+        ensures { IfOk result (λ r. refused_or r
             ≡ rename_at self.now.counting self.now.uri.now self.now.text.now at new.now) }
     {
         let text = self.text.as_slice();
         let place = self.text.offset_of(self.counting, at);
         let marks = marks_of(alloc, text)?;
         let renamed = rename(alloc, text, marks.as_slice(), place, new)?;
-        let value = self.edits_or_null(alloc, new, renamed)?;
-        Ok(value)
+        let outcome = self.edits_or_refusal(alloc, new, renamed)?;
+        Ok(outcome)
     }
 
-    fn range_or_null(
+    fn range_or_refusal(
         &self,
         alloc: Global,
         mark: Option<Mark>,
         declaration: Option<Mark>,
-    ) -> Result<Value, AllocError>
-        ensures { IfOk result (λ v. view v ≡ range_or_null self.now.counting self.now.text.now mark declaration) }
+    ) -> Result<Result<Value, RenameRefusal>, AllocError>
+        ensures { IfOk result (λ r. refused_or r ≡ range_or_refusal self.now.counting self.now.text.now mark declaration) }
     {
         match (mark, declaration) {
-            (Some(mark), Some(_)) => self.range(alloc, mark.start, mark.end),
-            _ => Ok(Value::Null),
+            (Some(mark), Some(_)) => {
+                let range = self.range(alloc, mark.start, mark.end)?;
+                Ok(Ok(range))
+            }
+            (Some(_), None) => Ok(Err(RenameRefusal::NotDeclared)),
+            (None, _) => Ok(Ok(Value::Null)),
         }
     }
 
-    /// The range of the name at a position, if the style declares it; null otherwise.
-    pub fn renamed_range_at(&self, alloc: Global, at: Position) -> Result<Value, AllocError>
-        ensures { IfOk result (λ v. view v ≡ renamed_range_at self.now.counting self.now.text.now at) }
+    /// The range of the name at a position; null if there is none, and refused if the style doesn't declare it.
+    pub fn renamed_range_at(
+        &self,
+        alloc: Global,
+        at: Position,
+    ) -> Result<Result<Value, RenameRefusal>, AllocError>
+        ensures { IfOk result (λ r. refused_or r ≡ renamed_range_at self.now.counting self.now.text.now at) }
     {
         let text = self.text.as_slice();
         let place = self.text.offset_of(self.counting, at);
         let marks = marks_of(alloc, text)?;
         let mark = name_at(marks.as_slice(), place);
         let declaration = definition(text, marks.as_slice(), place);
-        let value = self.range_or_null(alloc, mark, declaration)?;
-        Ok(value)
+        let outcome = self.range_or_refusal(alloc, mark, declaration)?;
+        Ok(outcome)
     }
 }

@@ -38,6 +38,8 @@ pub struct Finding {
     pub weight: Weight,
     pub code: Bytes,
     pub words: Bytes,
+    /// An entry for which it comes, as a run has shown; empty if none is known.
+    pub entry: Bytes,
     /// The innermost first.
     pub calls: Sequence<CallPlace>,
 }
@@ -106,19 +108,19 @@ impl Scene<'_> {
     }
 
     /// The words of a fault, and on lines of their own for which entries it comes, and such an entry.
-    fn fault_words(&self, fault: &Fault, entry: Option<&Bytes>) -> Result<Bytes, AllocError> {
+    fn fault_words(&self, fault: &Fault, entry: &[u8]) -> Result<Bytes, AllocError> {
         let mut words = Bytes::copied(self.alloc, fault.words.as_slice())?;
         let condition = fault.condition_words(self.alloc, self.style)?;
         if condition.len() > 0 {
             words.append_all(&[b"\nwhen ", condition.as_slice()])?;
         }
-        if let Some(entry) = entry {
-            words.append_all(&[b"\ntry ", entry.as_slice()])?;
+        if !entry.is_empty() {
+            words.append_all(&[b"\ntry ", entry])?;
         }
         Ok(words)
     }
 
-    fn fault(&self, fault: &Fault, entry: Option<&Bytes>) -> Result<Finding, AllocError> {
+    fn fault(&self, fault: &Fault, entry: &[u8]) -> Result<Finding, AllocError> {
         let name = self.name_of(fault);
         let Place { start, end } = self.words.place_of(fault.line, Wanted::Name(name));
         Ok(Finding {
@@ -127,6 +129,7 @@ impl Scene<'_> {
             weight: Weight::Fault,
             code: Bytes::copied(self.alloc, fault.kind.code())?,
             words: self.fault_words(fault, entry)?,
+            entry: Bytes::copied(self.alloc, entry)?,
             calls: self.calls(fault, name)?,
         })
     }
@@ -144,6 +147,7 @@ impl Scene<'_> {
             weight: weight_of(hint.rule),
             code: Bytes::copied(self.alloc, hint.rule.code())?,
             words: Bytes::copied(self.alloc, hint.words.as_slice())?,
+            entry: Bytes::new(self.alloc),
             calls: Sequence::new(self.alloc),
         }))
     }
@@ -159,6 +163,7 @@ impl Scene<'_> {
                 self.alloc,
                 b"the check gave up: this style needs more work than fits between two letters; bibtex-check goes on",
             )?,
+            entry: Bytes::new(self.alloc),
             calls: Sequence::new(self.alloc),
         })
     }
@@ -177,9 +182,9 @@ fn add_faults(
         Effort::Brief,
     )?;
     for (place, fault) in faults.iter().enumerate() {
-        let entry = match entries.get(place) {
-            Some(Some(entry)) => Some(entry),
-            _ => None,
+        let entry: &[u8] = match entries.get(place) {
+            Some(Some(entry)) => entry.as_slice(),
+            _ => &[],
         };
         let finding = scene.fault(fault, entry)?;
         all.push(finding)?;

@@ -30,7 +30,7 @@ pub use help::help_of;
 pub use hinting::{Likely, declarations, likely_name, meant, unknown, unused};
 pub use hover::hover_of;
 pub use marks::{Mark, marks_of};
-pub use names::{definition, name_at, references};
+pub use names::{declares, definition, name_at, references};
 pub use outline::{Symbol, symbols_of};
 pub use parts::part;
 pub use renaming::{RenameRefusal, rename};

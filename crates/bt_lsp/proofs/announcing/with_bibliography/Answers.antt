@@ -1,6 +1,6 @@
 use Rattle.std.proofs.Common.{map, codes}
 use Rattle.serde_json.specs.View.{view}
-use Rattle.bt_lsp.proofs.AnnouncingLemmas.{asked_text}
+use Rattle.bt_places.proofs.AnnouncingLemmas.{asked_text}
 use Rattle.bt_lsp.proofs.announcing.with_bibliography.Goals as goal
 
 pub returns : goal.returns

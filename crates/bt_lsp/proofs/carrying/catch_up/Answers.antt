@@ -1,5 +1,5 @@
-use Rattle.bt_lsp.proofs.TakenLemmas.{refreshed}
-use Rattle.bt_lsp.proofs.CarriedLemmas.{lags_if, lags_by}
+use Rattle.bt_places.proofs.TakenLemmas.{refreshed}
+use Rattle.bt_places.proofs.CarriedLemmas.{lags_if, lags_by}
 use Rattle.bt_lsp.proofs.carrying.catch_up.Goals as goal
 
 pub returns-clause-follows : goal.returns-clause-follows

@@ -1,8 +1,8 @@
 use Rattle.bt_paper.proofs.TextLemmas.{job_written, job_stays}
 use Rattle.bt_paper.proofs.beginning.write.Goals as goal
 
-pub returns-in-Ok : goal.returns-in-Ok
-returns-in-Ok c = job_written c.args.name.now c.args.text.now c.args.draft.now c.edit.new.self c.in-Ok.ensures.ok
+pub returns : goal.returns
+returns c = job_written c.args.name.now c.args.text.now c.args.draft.now c.write.new.self c.in_ok-write.ensures.ok
 
-pub returns-in-Err : goal.returns-in-Err
-returns-in-Err c = job_stays c.args.draft.now c.edit.new.self c.in-Err.ensures.err
+pub returns-in_err-write : goal.returns-in_err-write
+returns-in_err-write c = job_stays c.args.draft.now c.write.new.self c.in_err-write.ensures.err

@@ -1,0 +1,4 @@
+pub mod FeaturePlain
+pub mod PlainLemmas
+pub mod KeyLemmas
+pub mod MentionLemmas

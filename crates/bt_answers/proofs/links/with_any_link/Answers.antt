@@ -1,0 +1,7 @@
+use Rattle.std.proofs.Common.{ap, ◌∙◌, map, ◌++◌, ◌∷◌, []}
+use Rattle.serde_json.specs.Data.{Data}
+use Rattle.serde_json.specs.View.{view}
+use Rattle.bt_answers.proofs.links.with_any_link.Goals as goal
+
+pub returns : goal.returns
+returns c = c.in_ok-all.ensures ∙ ap (λ (v : Data). map view c.args.list.items ++ v ∷ []) c.in_ok-value.ensures

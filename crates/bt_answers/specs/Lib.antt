@@ -1,0 +1,13 @@
+pub mod Lensing
+pub mod Hints
+pub mod Keys
+pub mod Related
+pub mod Faults
+pub mod Lending
+pub mod References
+pub mod Renaming
+pub mod Symbols
+pub mod Formatting
+pub mod Outline
+pub mod Links
+pub mod Folding

@@ -1,0 +1,269 @@
+//! Where a key or a macro is mentioned in the paper's files and in LaTeX's open texts.
+
+ghost use Rattle.std.specs.Prelude.{◌≡◌, ◌<◌, ◌*◌, ◌^◌, ◌++◌, ◌∷◌, [], length, map, option_map, IfOk};
+ghost use Rattle.serde_json.specs.View.{view};
+ghost use Rattle.bt_places.specs.Editor.{counting_in};
+ghost use Rattle.bt_places.specs.Shapes.{location, range_of};
+ghost use Rattle.bt_answers.specs.References.{wanted_of, asked_of, is_use, is_definition, is_wanted, is_mention, all_references, is_mentioned, references, references_at, macro_places, macro_at};
+
+use crate::lending::Loan;
+use bt_documents::Document;
+use bt_mentions::{Mention, Role, part};
+use bt_places::{
+    Editor, Paper, Pick, Visit, is_any, is_key, location, mention_at, range_of, with_files,
+    with_picked, with_texts, with_value,
+};
+use bt_positions::{Counting, IndexedText, Position};
+use bt_style_answers::Lent;
+use bt_text::eq_ignore_ascii_case;
+use serde_json::Value;
+use std::alloc::{AllocError, Global};
+
+/// What is looked for.
+#[derive(Clone, Copy)]
+pub enum Wanted {
+    /// All mentions of a key.
+    Keys,
+    /// All mentions of a macro.
+    Macros,
+    /// The definitions of a macro.
+    Definitions,
+    /// The mentions of a key that aren't entries.
+    KeyUses,
+    /// The uses of a macro.
+    MacroUses,
+}
+
+/// A search for the mentions of a name.
+#[derive(Clone, Copy)]
+pub struct Search<'a> {
+    pub editor: Editor<'a>,
+    pub wanted: Wanted,
+    pub name: &'a [u8],
+}
+
+/// What is looked for if a mention's name is asked about.
+pub fn wanted_of(role: Role) -> Wanted
+    ensures { result ≡ wanted_of role }
+{
+    if is_key(role) {
+        Wanted::Keys
+    } else {
+        Wanted::Macros
+    }
+}
+
+/// Whether a macro is defined here.
+pub fn is_definition(role: Role) -> bool
+    ensures { result ≡ is_definition role }
+{
+    match role {
+        Role::Definition => true,
+        Role::Key | Role::Crossref | Role::Citation | Role::Macro => false,
+    }
+}
+
+/// What is looked for, with the declarations or without.
+fn asked_of(role: Role, with_declarations: bool) -> Wanted
+    ensures { result ≡ asked_of role with_declarations }
+{
+    if with_declarations {
+        wanted_of(role)
+    } else if is_key(role) {
+        Wanted::KeyUses
+    } else {
+        Wanted::MacroUses
+    }
+}
+
+/// Whether a name is used here, and not declared.
+fn is_use(role: Role) -> bool
+    ensures { result ≡ is_use role }
+{
+    match role {
+        Role::Crossref | Role::Citation | Role::Macro => true,
+        Role::Key | Role::Definition => false,
+    }
+}
+
+fn is_wanted(wanted: Wanted, role: Role) -> bool
+    ensures { result ≡ is_wanted wanted role }
+{
+    match wanted {
+        Wanted::Keys => is_key(role),
+        Wanted::Macros => !is_key(role),
+        Wanted::Definitions => is_definition(role),
+        Wanted::KeyUses => is_use(role) && is_key(role),
+        Wanted::MacroUses => is_use(role) && !is_key(role),
+    }
+}
+
+/// Whether a mention of a text is one of a name. Names are compared without case.
+pub fn is_mention(wanted: Wanted, name: &[u8], text: &[u8], one: Mention) -> bool
+    ensures { result ≡ is_mention wanted name.now text.now one }
+{
+    is_wanted(wanted, one.role) && eq_ignore_ascii_case(part(text, one.from, one.to), name)
+}
+
+fn with_place(
+    alloc: Global,
+    counting: Counting,
+    uri: &[u8],
+    text: &IndexedText,
+    list: Vec<Value>,
+    one: Mention,
+) -> Result<Vec<Value>, AllocError>
+    requires { 2 * length text.now < 2 ^ 64 }
+    ensures { IfOk result (λ all. map view all.items ≡
+        map view list.items ++ location uri.now (range_of counting text.now one.from one.to) ∷ []) }
+{
+    let range = range_of(alloc, counting, text, one.from, one.to)?;
+    let place = location(alloc, uri, range)?;
+    let all = with_value(list, place)?;
+    Ok(all)
+}
+
+impl Pick for Search<'_> {
+    ghost use Rattle.bt_places.specs.Editor.{counting_in};
+    ghost use Rattle.bt_answers.specs.References.{with_reference};
+
+    ghost picked = { λ s uri text list one.
+        with_reference (counting_in s.editor.counting s.editor.documents.now) s.wanted s.name.now uri text list one };
+
+    fn pick(
+        &self,
+        alloc: Global,
+        uri: &[u8],
+        text: &IndexedText,
+        list: Vec<Value>,
+        one: Mention,
+    ) -> Result<Vec<Value>, AllocError> {
+        if !is_mention(self.wanted, self.name, text.as_slice(), one) {
+            return Ok(list);
+        }
+        with_place(alloc, self.editor.counting_in(uri), uri, text, list, one)
+    }
+}
+
+impl Visit for Search<'_> {
+    ghost use Rattle.bt_places.specs.Editor.{counting_in};
+    ghost use Rattle.bt_answers.specs.References.{with_references};
+
+    ghost added = { λ s list uri text.
+        with_references (counting_in s.editor.counting s.editor.documents.now) s.wanted s.name.now list uri text };
+
+    fn visit(
+        &self,
+        alloc: Global,
+        list: Vec<Value>,
+        uri: &[u8],
+        text: &[u8],
+    ) -> Result<Vec<Value>, AllocError> {
+        with_picked(alloc, self, list, uri, text)
+    }
+}
+
+fn all_references<P: Paper>(
+    alloc: Global,
+    paper: &P,
+    search: &Search<'_>,
+) -> Result<Vec<Value>, AllocError>
+    ensures { IfOk result (λ list. map view list.items ≡ all_references (P.shown paper.now).files
+        search.now.editor.documents.now search.now.editor.counting search.now.wanted search.now.name.now) }
+{
+    let list = with_files(alloc, paper, search, Vec::new(alloc))?;
+    with_texts(alloc, search.editor.documents, search, list)
+}
+
+/// Whether a name is mentioned in the paper's files or in LaTeX's open texts.
+pub fn is_mentioned<P: Paper>(
+    alloc: Global,
+    paper: &P,
+    search: &Search<'_>,
+) -> Result<bool, AllocError>
+    ensures { IfOk result (λ found. found ≡ is_mentioned (P.shown paper.now).files
+        search.now.editor.documents.now search.now.editor.counting search.now.wanted search.now.name.now) }
+{
+    let list = all_references(alloc, paper, search)?;
+    Ok(is_any(list.as_slice()))
+}
+
+fn references<P: Paper>(alloc: Global, paper: &P, search: &Search<'_>) -> Result<Value, AllocError>
+    ensures { IfOk result (λ v. view v ≡ references (P.shown paper.now).files
+        search.now.editor.documents.now search.now.editor.counting search.now.wanted search.now.name.now) }
+{
+    let list = all_references(alloc, paper, search)?;
+    Ok(Value::Array(list))
+}
+
+/// Where the key or the macro at a position of a document is mentioned, with its declarations or without; null if there is
+/// none.
+pub fn references_at<P: Paper>(
+    alloc: Global,
+    paper: &P,
+    editor: &Editor<'_>,
+    document: &Document,
+    at: Position,
+    with_declarations: bool,
+) -> Result<Value, AllocError>
+    ensures { IfOk result (λ v. view v ≡ references_at (P.shown paper.now).files editor.now.documents.now
+        editor.now.counting document.now at with_declarations) }
+{
+    let Some(one) = mention_at(alloc, document, at)? else {
+        return Ok(Value::Null);
+    };
+    let search = Search {
+        editor: *editor,
+        wanted: asked_of(one.role, with_declarations),
+        name: part(document.text.as_slice(), one.from, one.to),
+    };
+    let found = references(alloc, paper, &search)?;
+    Ok(found)
+}
+
+/// Where databases and the paper's style define a macro.
+fn macro_places<P: Paper>(
+    alloc: Global,
+    paper: &P,
+    editor: &Editor<'_>,
+    name: &[u8],
+) -> Result<Value, AllocError>
+    ensures { IfOk result (λ v. view v ≡
+        macro_places (P.shown paper.now).files editor.now.documents.now editor.now.counting name.now) }
+{
+    let search = Search {
+        editor: *editor,
+        wanted: Wanted::Definitions,
+        name,
+    };
+    let list = all_references(alloc, paper, &search)?;
+    let loan = Loan {
+        editor: *editor,
+        lent: Lent::Macro,
+        name,
+    };
+    let all = with_files(alloc, paper, &loan, list)?;
+    Ok(Value::Array(all))
+}
+
+/// Where the macro at a position of a document is defined; none if there is no macro.
+pub fn macro_at<P: Paper>(
+    alloc: Global,
+    paper: &P,
+    editor: &Editor<'_>,
+    document: &Document,
+    at: Position,
+) -> Result<Option<Value>, AllocError>
+    ensures { IfOk result (λ found. option_map view found ≡
+        macro_at (P.shown paper.now).files editor.now.documents.now editor.now.counting document.now at) }
+{
+    let Some(one) = mention_at(alloc, document, at)? else {
+        return Ok(None);
+    };
+    if is_key(one.role) {
+        return Ok(None);
+    }
+    let name = part(document.text.as_slice(), one.from, one.to);
+    let found = macro_places(alloc, paper, editor, name)?;
+    Ok(Some(found))
+}

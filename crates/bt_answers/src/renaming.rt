@@ -1,0 +1,304 @@
+//! Renames a key or a macro in the paper's files and in LaTeX's open texts.
+
+ghost use Rattle.std.specs.Prelude.{◌≡◌, ◌<◌, ◌*◌, ◌^◌, ◌++◌, ◌∷◌, [], length, map, option_map, IfOk};
+ghost use Rattle.std.specs.List.{list_all};
+ghost use Rattle.serde_json.specs.View.{view};
+ghost use Rattle.bt_talk.specs.Replies.{outcome_of};
+ghost use Rattle.bt_mentions.specs.KeyBytes.{is_key_byte};
+ghost use Rattle.bt_places.specs.Shapes.{range_of};
+ghost use Rattle.bt_answers.specs.Renaming.{text_edit, file_edit, with_file_edit, is_new_key, can_be_named, renamed, is_free, is_defined, renamed_by, is_named, renamed_at, range_if_defined, name_range_at};
+
+use crate::references::{Search, Wanted, is_mention, is_mentioned, wanted_of};
+use bt_documents::Document;
+use bt_mentions::{Mention, is_key_byte, part};
+use bt_places::{
+    Editor, Paper, Pick, SHOWN_BYTES, Visit, is_any, is_key, mention_at, range_of, with_files,
+    with_picked, with_texts, with_value,
+};
+use bt_positions::{Counting, IndexedText, Position};
+use bt_rpc::RpcError;
+pub use bt_shapes::workspace_edit;
+use bt_shapes::{file_edit, text_edit};
+use bt_text::{eq_ignore_ascii_case, is_name};
+use serde_json::Value;
+use std::alloc::{AllocError, Global};
+
+/// A change of a name to another in all mentions.
+#[derive(Clone, Copy)]
+pub struct Renaming<'a> {
+    editor: Editor<'a>,
+    wanted: Wanted,
+    old: &'a [u8],
+    new: &'a [u8],
+}
+
+/// Adds the edit that replaces a part of a text.
+pub fn with_text_edit(
+    alloc: Global,
+    counting: Counting,
+    text: &IndexedText,
+    list: Vec<Value>,
+    from: usize,
+    to: usize,
+    new: &[u8],
+) -> Result<Vec<Value>, AllocError>
+    requires { 2 * length text.now < 2 ^ 64 }
+    ensures { IfOk result (λ all. map view all.items ≡
+        map view list.items ++ text_edit (range_of counting text.now from to) new.now ∷ []) }
+{
+    let range = range_of(alloc, counting, text, from, to)?;
+    let edit = text_edit(alloc, range, new)?;
+    let all = with_value(list, edit)?;
+    Ok(all)
+}
+
+impl Pick for Renaming<'_> {
+    ghost use Rattle.bt_places.specs.Editor.{counting_in};
+    ghost use Rattle.bt_answers.specs.Renaming.{with_edit};
+
+    ghost picked = { λ r uri text list one.
+        with_edit (counting_in r.editor.counting r.editor.documents.now) r.wanted r.old.now r.new.now uri text list one };
+
+    fn pick(
+        &self,
+        alloc: Global,
+        uri: &[u8],
+        text: &IndexedText,
+        list: Vec<Value>,
+        one: Mention,
+    ) -> Result<Vec<Value>, AllocError> {
+        if !is_mention(self.wanted, self.old, text.as_slice(), one) {
+            return Ok(list);
+        }
+        let counting = self.editor.counting_in(uri);
+        with_text_edit(alloc, counting, text, list, one.from, one.to, self.new)
+    }
+}
+
+pub fn with_edits(
+    alloc: Global,
+    list: Vec<Value>,
+    uri: &[u8],
+    edits: Vec<Value>,
+) -> Result<Vec<Value>, AllocError>
+    ensures { IfOk result (λ all. map view all.items ≡
+        map view list.items ++ file_edit uri.now (map view edits.items) ∷ []) }
+{
+    let edit = file_edit(alloc, uri, edits)?;
+    with_value(list, edit)
+}
+
+fn with_file_edit(
+    alloc: Global,
+    list: Vec<Value>,
+    uri: &[u8],
+    edits: Vec<Value>,
+) -> Result<Vec<Value>, AllocError>
+    ensures { IfOk result (λ all. map view all.items ≡ with_file_edit (map view list.items) uri.now (map view edits.items)) }
+{
+    if !is_any(edits.as_slice()) {
+        return Ok(list);
+    }
+    with_edits(alloc, list, uri, edits)
+}
+
+impl Visit for Renaming<'_> {
+    ghost use Rattle.bt_places.specs.Editor.{counting_in};
+    ghost use Rattle.bt_answers.specs.Renaming.{with_renamed};
+
+    ghost added = { λ r list uri text.
+        with_renamed (counting_in r.editor.counting r.editor.documents.now) r.wanted r.old.now r.new.now list uri text };
+
+    fn visit(
+        &self,
+        alloc: Global,
+        list: Vec<Value>,
+        uri: &[u8],
+        text: &[u8],
+    ) -> Result<Vec<Value>, AllocError> {
+        let edits = with_picked(alloc, self, Vec::new(alloc), uri, text)?;
+        with_file_edit(alloc, list, uri, edits)
+    }
+}
+
+fn has_key_bytes_alone(text: &[u8]) -> bool
+    ensures { result ≡ list_all is_key_byte text.now }
+{
+    text.iter().all(|byte| is_key_byte(*byte))
+}
+
+/// Whether a text can be a key in any entry and citation.
+fn is_new_key(new: &[u8]) -> bool
+    ensures { result ≡ is_new_key new.now }
+{
+    match new {
+        [] => false,
+        [_, ..] => has_key_bytes_alone(new),
+    }
+}
+
+fn can_be_named(wanted: Wanted, new: &[u8]) -> bool
+    ensures { result ≡ can_be_named wanted new.now }
+{
+    match wanted {
+        Wanted::Keys | Wanted::KeyUses => is_new_key(new),
+        Wanted::Macros | Wanted::MacroUses | Wanted::Definitions => is_name(new),
+    }
+}
+
+fn renamed<P: Paper>(alloc: Global, paper: &P, renaming: &Renaming<'_>) -> Result<Value, AllocError>
+    ensures { IfOk result (λ v. view v ≡ renamed (P.shown paper.now).files renaming.now.editor.documents.now
+        renaming.now.editor.counting renaming.now.wanted renaming.now.old.now renaming.now.new.now) }
+{
+    let changes = with_files(alloc, paper, renaming, Vec::new(alloc))?;
+    let changes = with_texts(alloc, renaming.editor.documents, renaming, changes)?;
+    workspace_edit(alloc, changes)
+}
+
+/// Whether a name is free: nothing has it, or it is the old one in another spelling.
+fn is_free<P: Paper>(alloc: Global, paper: &P, renaming: &Renaming<'_>) -> Result<bool, AllocError>
+    ensures { IfOk result (λ free. free ≡ is_free (P.shown paper.now).files renaming.now.editor.documents.now
+        renaming.now.editor.counting renaming.now.wanted renaming.now.old.now renaming.now.new.now) }
+{
+    if eq_ignore_ascii_case(renaming.new, renaming.old) {
+        return Ok(true);
+    }
+    let search = Search {
+        editor: renaming.editor,
+        wanted: renaming.wanted,
+        name: renaming.new,
+    };
+    let found = is_mentioned(alloc, paper, &search)?;
+    Ok(!found)
+}
+
+/// Whether files define what is looked for. A key needs no entry.
+fn is_defined<P: Paper>(
+    alloc: Global,
+    paper: &P,
+    editor: &Editor<'_>,
+    wanted: Wanted,
+    old: &[u8],
+) -> Result<bool, AllocError>
+    ensures { IfOk result (λ defined. defined ≡
+        is_defined (P.shown paper.now).files editor.now.documents.now editor.now.counting wanted old.now) }
+{
+    match wanted {
+        Wanted::Keys | Wanted::KeyUses => Ok(true),
+        Wanted::Macros | Wanted::MacroUses | Wanted::Definitions => {
+            let search = Search {
+                editor: *editor,
+                wanted: Wanted::Definitions,
+                name: old,
+            };
+            let found = is_mentioned(alloc, paper, &search)?;
+            Ok(found)
+        }
+    }
+}
+
+fn renamed_if_free<P: Paper>(
+    alloc: Global,
+    paper: &P,
+    renaming: &Renaming<'_>,
+) -> Result<Result<Value, RpcError>, AllocError>
+    ensures { IfOk result (λ o. outcome_of o ≡ renamed_by (P.shown paper.now).files renaming.now) }
+{
+    if !can_be_named(renaming.wanted, renaming.new) {
+        return Ok(Err(RpcError::BadName));
+    }
+    if !is_free(alloc, paper, renaming)? {
+        return Ok(Err(RpcError::TakenName));
+    }
+    if !is_defined(
+        alloc,
+        paper,
+        &renaming.editor,
+        renaming.wanted,
+        renaming.old,
+    )? {
+        return Ok(Err(RpcError::UndefinedMacro));
+    }
+    Ok(Ok(renamed(alloc, paper, renaming)?))
+}
+
+/// Whether a mention has a name that can change. A number in a value has none.
+fn is_named(text: &[u8], one: Mention) -> bool
+    ensures { result ≡ is_named text.now one }
+{
+    is_key(one.role) || is_name(part(text, one.from, one.to))
+}
+
+/// The edits that give the key or the macro at a position of a document a new name, in all files; null if there is none.
+pub fn renamed_at<P: Paper>(
+    alloc: Global,
+    paper: &P,
+    editor: &Editor<'_>,
+    document: &Document,
+    at: Position,
+    new: Option<&str>,
+) -> Result<Result<Value, RpcError>, AllocError>
+    ensures { IfOk result (λ o. outcome_of o ≡ renamed_at (P.shown paper.now).files editor.now.documents.now editor.now.counting
+        document.now at (option_map (λ s. s.now) new.entry)) }
+{
+    let Some(new) = new else {
+        return Ok(Err(RpcError::InvalidParams));
+    };
+    let Some(one) = mention_at(alloc, document, at)? else {
+        return Ok(Ok(Value::Null));
+    };
+    if !is_named(document.text.as_slice(), one) {
+        return Ok(Ok(Value::Null));
+    }
+    let renaming = Renaming {
+        editor: *editor,
+        wanted: wanted_of(one.role),
+        old: part(document.text.as_slice(), one.from, one.to),
+        new: new.as_bytes(),
+    };
+    let outcome = renamed_if_free(alloc, paper, &renaming)?;
+    Ok(outcome)
+}
+
+/// The range of a name, if it can change.
+fn range_if_defined<P: Paper>(
+    alloc: Global,
+    paper: &P,
+    editor: &Editor<'_>,
+    document: &Document,
+    one: Mention,
+) -> Result<Result<Value, RpcError>, AllocError>
+    requires { 2 * length document.now.text < 2 ^ 64 }
+    ensures { IfOk result (λ o. outcome_of o ≡
+        range_if_defined (P.shown paper.now).files editor.now.documents.now editor.now.counting document.now one) }
+{
+    let old = part(document.text.as_slice(), one.from, one.to);
+    if !is_defined(alloc, paper, editor, wanted_of(one.role), old)? {
+        return Ok(Err(RpcError::UndefinedMacro));
+    }
+    let range = range_of(alloc, document.counting, &document.text, one.from, one.to)?;
+    Ok(Ok(range))
+}
+
+/// The range of the name at a position of a document; null if there is none.
+pub fn name_range_at<P: Paper>(
+    alloc: Global,
+    paper: &P,
+    editor: &Editor<'_>,
+    document: &Document,
+    at: Position,
+) -> Result<Result<Value, RpcError>, AllocError>
+    ensures { IfOk result (λ o. outcome_of o ≡
+        name_range_at (P.shown paper.now).files editor.now.documents.now editor.now.counting document.now at) }
+{
+    if document.text.as_slice().len() > SHOWN_BYTES {
+        return Ok(Ok(Value::Null));
+    }
+    let Some(one) = mention_at(alloc, document, at)? else {
+        return Ok(Ok(Value::Null));
+    };
+    if !is_named(document.text.as_slice(), one) {
+        return Ok(Ok(Value::Null));
+    }
+    range_if_defined(alloc, paper, editor, document, one)
+}

@@ -1,9 +1,0 @@
-use Rattle.std.proofs.Common.{◌≡◌, ◌++◌, drop, map}
-use Rattle.serde_json.specs.View.{view}
-use Rattle.bt_lsp.specs.Citing.{candidates_in}
-use Rattle.bt_lsp.proofs.citing.candidates.Given as goal
-
-abbrev pub invariant-files : goal.invariant-files
-invariant-files g l =
-    let files = (g.P.Paper.shown l.paper).files in
-    map view l.list.items ++ candidates_in (drop l.n files) ≡ candidates_in files

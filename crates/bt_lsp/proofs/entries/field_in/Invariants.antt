@@ -1,6 +1,0 @@
-use Rattle.std.proofs.Common.{◌≡◌, drop}
-use Rattle.bt_lsp.specs.Entries.{field_in}
-use Rattle.bt_lsp.proofs.entries.field_in.Given as goal
-
-abbrev pub invariant-fields : goal.invariant-fields
-invariant-fields l = field_in l.name (drop l.field-index l.fields) ≡ field_in l.name l.fields

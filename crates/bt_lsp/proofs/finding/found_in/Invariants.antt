@@ -1,9 +1,0 @@
-use Rattle.std.proofs.Common.{◌≡◌, drop}
-use Rattle.bt_lsp.specs.Editor.{counting_in}
-use Rattle.bt_lsp.specs.Finding.{found_in}
-use Rattle.bt_lsp.proofs.finding.found_in.Given as goal
-
-abbrev pub invariant-files : goal.invariant-files
-invariant-files g l =
-    let files = (g.P.Paper.shown l.paper).files in
-    found_in (counting_in l.editor.counting l.editor.documents.now) l.key (drop l.n files) ≡ found_in (counting_in l.editor.counting l.editor.documents.now) l.key files

@@ -1,6 +1,0 @@
-use Rattle.std.proofs.Common.{◌≡◌, drop}
-use Rattle.bt_lsp.specs.Finding.{place_in}
-use Rattle.bt_lsp.proofs.finding.place_in.Given as goal
-
-abbrev pub invariant-pieces : goal.invariant-pieces
-invariant-pieces l = place_in l.key (drop l.piece-index l.pieces) ≡ place_in l.key l.pieces

@@ -1,8 +1,0 @@
-use Rattle.std.proofs.Common.{◌≡◌, ◌++◌, drop, map}
-use Rattle.serde_json.specs.View.{view}
-use Rattle.bt_lsp.specs.Folding.{folds_in}
-use Rattle.bt_lsp.proofs.folding.folds_in.Given as goal
-
-abbrev pub invariant-pieces : goal.invariant-pieces
-invariant-pieces l =
-    map view l.list.items ++ folds_in l.counting l.text (drop l.piece-index l.pieces) ≡ folds_in l.counting l.text l.pieces

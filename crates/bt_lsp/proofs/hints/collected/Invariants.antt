@@ -1,8 +1,0 @@
-use Rattle.std.proofs.Common.{◌≡◌, [], drop}
-use Rattle.bt_lsp.specs.Hints.{with_all_names}
-use Rattle.bt_lsp.proofs.hints.collected.Given as goal
-
-abbrev pub invariant-files : goal.invariant-files
-invariant-files g l =
-    let files = (g.P.Paper.shown l.paper).files in
-    with_all_names l.asked l.list (drop l.n files) ≡ with_all_names l.asked [] files

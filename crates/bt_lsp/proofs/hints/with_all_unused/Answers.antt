@@ -1,8 +1,0 @@
-use Rattle.std.proofs.Common.{ℕ, List, ap, ◌∙◌, map}
-use Rattle.serde_json.specs.View.{view}
-use Rattle.bt_lsp.specs.Hints.{with_unused_if_any}
-use Rattle.bt_lsp.proofs.hints.with_all_unused.Goals as goal
-
-pub returns : goal.returns
-returns g c =
-    c.in_ok-all.ensures ∙ ap (λ (names : List (List ℕ)). with_unused_if_any names c.args.document.now (map view c.args.list.items)) c.in_ok-asked.ensures

@@ -1,9 +1,0 @@
-use Rattle.std.proofs.Common.{arith}
-use Rattle.bt_lsp.specs.Outline.{symbol_of}
-use Rattle.bt_lsp.proofs.MoreLemmas.{filtered_more}
-use Rattle.bt_lsp.proofs.outline.symbols_in.Goals as goal
-
-pub pieces-preserved : goal.pieces-preserved
-pieces-preserved c =
-    filtered_more (symbol_of c.args.counting c.args.text.now) c.args.pieces.now c.pieces.piece-index c.piece-item.result _ _ _ (omega (arith, c.pieces-test.true)) c.piece-item.is
-    c.in_ok-list.ensures c.pieces.invariant

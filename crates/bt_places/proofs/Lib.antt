@@ -1,0 +1,10 @@
+pub mod PlainLists
+pub mod FeaturePlain
+pub mod CompletingPlain
+pub mod PlainLemmas
+pub mod FileLemmas
+pub mod MoreLemmas
+pub mod WordLemmas
+pub mod TakenLemmas
+pub mod CarriedLemmas
+pub mod AnnouncingLemmas

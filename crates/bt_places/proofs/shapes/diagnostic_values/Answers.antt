@@ -1,0 +1,10 @@
+use Rattle.std.proofs.Common.{arith}
+use Rattle.serde_json.specs.View.{view}
+use Rattle.bt_places.specs.Shapes.{diagnostic}
+use Rattle.bt_places.proofs.MoreLemmas.{mapped_more}
+use Rattle.bt_places.proofs.shapes.diagnostic_values.Goals as goal
+
+pub found-preserved : goal.found-preserved
+found-preserved c =
+    mapped_more view diagnostic c.args.found.now c.found.one-index c.one-item.result _ _ _ _ (omega (arith, c.found-test.true)) c.one-item.is
+    c.in_ok-push.ensures.items c.in_ok-diagnostic.ensures c.found.invariant

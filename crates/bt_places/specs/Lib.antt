@@ -1,0 +1,11 @@
+pub mod Parameters
+pub mod Words
+pub mod Shapes
+pub mod Shown
+pub mod Editor
+pub mod Entries
+pub mod Hover
+pub mod Mentioning
+pub mod Commented
+pub mod Picking
+pub mod Visiting

@@ -1,0 +1,29 @@
+//! What the editor holds open, what was found in it, and how the editor counts in the texts of files.
+
+ghost use Rattle.std.specs.Prelude.{◌≡◌};
+ghost use Rattle.bt_places.specs.Editor.{counting_in};
+
+use crate::parameters::document_named;
+use bt_documents::Document;
+use bt_positions::Counting;
+use bt_style_findings::Checked;
+
+/// The open documents, what was found in styles, and the units of positions in the texts of other files.
+#[derive(Clone, Copy)]
+pub struct Editor<'a> {
+    pub documents: &'a [Document],
+    pub checked: &'a [Checked],
+    pub counting: Counting,
+}
+
+impl Editor<'_> {
+    /// How positions in a file count: as its document does if it is open, else as the editor does.
+    pub fn counting_in(&self, uri: &[u8]) -> Counting
+        ensures { result ≡ counting_in self.now.counting self.now.documents.now uri.now }
+    {
+        match document_named(self.documents, uri) {
+            Some(document) => document.counting,
+            None => self.counting,
+        }
+    }
+}

@@ -1,0 +1,193 @@
+//! Values of the protocol.
+
+ghost use Rattle.std.specs.Prelude.{◌≡◌, map, IfOk};
+ghost use Rattle.std.specs.String.{string_bytes};
+ghost use Rattle.serde_json.specs.Data.{object};
+ghost use Rattle.serde_json.specs.View.{view, members_view};
+ghost use Rattle.bt_places.specs.Shapes.{diagnostic, published_params, published, contents, hover, shown_text, shown_status, completion_options, rename_options, sync_options, whole_options, abilities, ranged, encoding_of, capabilities};
+
+use crate::words::{is_utf8, shown};
+use bt_diagnostics::Diagnostic;
+use bt_rpc::notification;
+use bt_shapes::range;
+pub use bt_shapes::{location, range_of};
+use serde_json::{Map, Value, json, put};
+use std::alloc::{AllocError, Global};
+
+/// The most bytes of a document that is shown with diagnostics or an outline: 1 GiB.
+pub const SHOWN_BYTES: usize = 1_073_741_824;
+
+/// What an editor shows of a diagnostic.
+pub fn diagnostic(alloc: Global, found: &Diagnostic) -> Result<Value, AllocError>
+    ensures { IfOk result (λ v. view v ≡ diagnostic found.now) }
+{
+    let range = range(alloc, found.from, found.to)?;
+    let words = shown(alloc, found.words.as_slice())?;
+    let severity = found.severity;
+    json!(in alloc; {"range": range, "severity": severity, "source": "bibtex", "message": words})
+}
+
+/// What an editor shows of diagnostics.
+pub fn diagnostic_values(alloc: Global, found: &[Diagnostic]) -> Result<Vec<Value>, AllocError>
+    ensures { IfOk result (λ list. map view list.items ≡ map diagnostic found.now) }
+{
+    let mut list = Vec::new(alloc);
+    'found: for one in found {
+        list.push(diagnostic(alloc, one)?)?;
+    }
+    Ok(list)
+}
+
+fn published_params(alloc: Global, uri: &[u8], list: Vec<Value>) -> Result<Value, AllocError>
+    ensures { IfOk result (λ v. view v ≡ published_params uri.now (map view list.items)) }
+{
+    let list = Value::Array(list);
+    let uri = shown(alloc, uri)?;
+    json!(in alloc; {"uri": uri, "diagnostics": list})
+}
+
+/// The notification that publishes the diagnostics of a document.
+pub fn published(alloc: Global, uri: &[u8], list: Vec<Value>) -> Result<Value, AllocError>
+    ensures { IfOk result (λ v. view v ≡ published uri.now (map view list.items)) }
+{
+    let params = published_params(alloc, uri, list)?;
+    let message = notification(alloc, "textDocument/publishDiagnostics", &params)?;
+    Ok(message)
+}
+
+fn contents(alloc: Global, kind: &str, words: String) -> Result<Value, AllocError>
+    ensures { IfOk result (λ v. view v ≡ contents kind.now (string_bytes words)) }
+{
+    json!(in alloc; {"contents": {"kind": kind, "value": words}})
+}
+
+/// What a hover shows of lines: plain text, or a block of LaTeX in Markdown.
+pub fn hover(alloc: Global, plain: bool, lines: &[u8]) -> Result<Value, AllocError>
+    ensures { IfOk result (λ v. view v ≡ hover plain lines.now) }
+{
+    let words = shown(alloc, lines)?;
+    if plain {
+        return contents(alloc, "plaintext", words);
+    }
+    let block = format!(in alloc; "```tex\n{words}```")?;
+    contents(alloc, "markdown", block)
+}
+
+/// The bibliography or the log, with the run's status.
+pub fn shown_text(alloc: Global, text: &[u8], status: u8) -> Result<Value, AllocError>
+    ensures { IfOk result (λ v. view v ≡ shown_text text.now status) }
+{
+    let exact = is_utf8(text);
+    let words = shown(alloc, text)?;
+    json!(in alloc; {"text": words, "exact": exact, "status": status})
+}
+
+/// The run's status.
+pub fn shown_status(alloc: Global, status: u8) -> Result<Value, AllocError>
+    ensures { IfOk result (λ v. view v ≡ shown_status status) }
+{
+    json!(in alloc; {"status": status})
+}
+
+fn completion_options(alloc: Global) -> Result<Value, AllocError>
+    ensures { IfOk result (λ v. view v ≡ completion_options) }
+{
+    json!(in alloc; {"triggerCharacters": ["{", ",", "@"]})
+}
+
+fn rename_options(alloc: Global) -> Result<Value, AllocError>
+    ensures { IfOk result (λ v. view v ≡ rename_options) }
+{
+    json!(in alloc; {"prepareProvider": true})
+}
+
+fn sync_options(alloc: Global) -> Result<Value, AllocError>
+    ensures { IfOk result (λ v. view v ≡ sync_options) }
+{
+    json!(in alloc; {"openClose": true, "change": 2, "save": true})
+}
+
+/// How links and lenses are sent: whole, so that the editor asks for no more of them.
+fn whole_options(alloc: Global) -> Result<Value, AllocError>
+    ensures { IfOk result (λ v. view v ≡ whole_options) }
+{
+    json!(in alloc; {"resolveProvider": false})
+}
+
+fn abilities(
+    alloc: Global,
+    encoding: &str,
+    completion: Value,
+    rename: Value,
+    sync: Value,
+    links: Value,
+    lenses: Value,
+) -> Result<Value, AllocError>
+    ensures { IfOk result (λ v. view v ≡ abilities encoding.now (view completion) (view rename) (view sync)
+        (view links) (view lenses)) }
+{
+    json!(in alloc; {
+        "workspaceSymbolProvider": true,
+        "textDocumentSync": sync,
+        "renameProvider": rename,
+        "referencesProvider": true,
+        "positionEncoding": encoding,
+        "hoverProvider": true,
+        "foldingRangeProvider": true,
+        "documentSymbolProvider": true,
+        "documentLinkProvider": links,
+        "documentFormattingProvider": true,
+        "definitionProvider": true,
+        "completionProvider": completion,
+        "codeLensProvider": lenses,
+        "codeActionProvider": true
+    })
+}
+
+fn with_range_layout(alloc: Global, able: Map<String, Value>) -> Result<Value, AllocError>
+    ensures { IfOk result (λ v. view v ≡ ranged (object (members_view able.entries))) }
+{
+    let mut all = able;
+    put(
+        &mut all,
+        alloc,
+        "documentRangeFormattingProvider",
+        Value::Bool(true),
+    )?;
+    Ok(Value::Object(all))
+}
+
+/// Adds that a range can be laid out, to what the server can do. (One object of fifteen members is too large for a proof.)
+fn ranged(alloc: Global, able: Value) -> Result<Value, AllocError>
+    ensures { IfOk result (λ v. view v ≡ ranged (view able)) }
+{
+    match able {
+        Value::Null => Ok(Value::Null),
+        Value::Bool(value) => Ok(Value::Bool(value)),
+        Value::Number(value) => Ok(Value::Number(value)),
+        Value::String(value) => Ok(Value::String(value)),
+        Value::Array(values) => Ok(Value::Array(values)),
+        Value::Object(members) => with_range_layout(alloc, members),
+    }
+}
+
+fn encoding_of(counts_bytes: bool) -> &'static str
+    ensures { result.now ≡ encoding_of counts_bytes }
+{
+    if counts_bytes { "utf-8" } else { "utf-16" }
+}
+
+/// The answer to `initialize`: how positions count, and what the server can do.
+pub fn capabilities(alloc: Global, counts_bytes: bool) -> Result<Value, AllocError>
+    ensures { IfOk result (λ v. view v ≡ capabilities counts_bytes) }
+{
+    let completion = completion_options(alloc)?;
+    let rename = rename_options(alloc)?;
+    let sync = sync_options(alloc)?;
+    let links = whole_options(alloc)?;
+    let lenses = whole_options(alloc)?;
+    let encoding = encoding_of(counts_bytes);
+    let able = abilities(alloc, encoding, completion, rename, sync, links, lenses)?;
+    let able = ranged(alloc, able)?;
+    json!(in alloc; {"capabilities": able, "serverInfo": {"name": "bibtex-lsp"}})
+}

@@ -1,0 +1,2 @@
+mod DifferLemmas
+pub mod laws

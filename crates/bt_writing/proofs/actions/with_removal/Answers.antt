@@ -1,0 +1,12 @@
+use Rattle.std.proofs.Common.{◌∙◌, ap, sym, map, ◌++◌, ◌∷◌, [], Bor, Option, option_map}
+use Rattle.serde_json.specs.Data.{Data}
+use Rattle.serde_json.specs.View.{view}
+use Rattle.bt_bib.specs.declared.placed_pieces.PlacedPiece.{PlacedPiece}
+use Rattle.bt_writing.specs.Actions.{with_removal}
+use Rattle.bt_writing.proofs.actions.with_removal.Goals as goal
+
+pub returns-in_ok-all-in-Some : goal.returns-in_ok-all-in-Some
+returns-in_ok-all-in-Some c =
+    let list = map view c.args.list.items in
+    c.in_ok-all-in-Some.ensures ∙ ap (λ (v : Data). list ++ v ∷ []) c.in_ok-removal-in-Some.ensures ∙
+    ap (λ (p : Option (Bor PlacedPiece)). with_removal c.args.document.now list (option_map (λ (q : Bor PlacedPiece). q.now) p)) (sym c.in-Some.is)

@@ -1,0 +1,12 @@
+pub mod ItemEnds
+pub mod Written
+pub mod Fields
+pub mod StyleMacros
+pub mod Types
+pub mod Completing
+pub mod QuickFix
+pub mod Respelling
+pub mod Actions
+pub mod Finding
+pub mod Citing
+pub mod Trials

@@ -1,0 +1,71 @@
+-- An action in a style: it puts the entry that a finding proposes to try at the end of an open database.
+use Rattle.std.specs.Prelude.{ℕ, ◌==◌, Bool, nat_le, nat_lt, ◌&&◌, ◌||◌, not, if◌then◌else◌, List, [], ◌∷◌, ◌++◌, length, codes, find, Option, Some, None}
+use Rattle.std.specs.List.{fold}
+use Rattle.std.specs.Str.Lossy.{utf8_lossy}
+use Rattle.serde_json.specs.Data.{Data, null}
+use Rattle.bt_positions.specs.Positions.{offset_of}
+use Rattle.bt_positions.specs.declared.indexed_text.Position.{Position}
+use Rattle.bt_documents.specs.declared.document.Document.{Document}
+use Rattle.bt_style_findings.specs.declared.finding.Finding.{Finding}
+use Rattle.bt_style_findings.specs.declared.checked.Checked.{Checked}
+use Rattle.bt_style_findings.specs.Checked.{found_for}
+use Rattle.bt_writing.specs.Actions.{array_if_any}
+use Rattle.bt_places.specs.Entries.{is_database}
+use Rattle.bt_answers.specs.Links.{file_name}
+use Rattle.bt_places.specs.Parameters.{position_at}
+use Rattle.bt_writing.specs.QuickFix.{action, edit_at}
+
+-- the first open database
+abbrev pub first_database : List Document → Option Document
+first_database docs = find (λ (d : Document). is_database d.name) docs
+
+-- whether a finding is at a place between two others
+abbrev pub touches : ℕ → ℕ → Finding → Bool
+touches from to f = nat_le f.start to && nat_le from f.end
+
+-- what the action is called
+abbrev pub trial_title : Document → List ℕ
+trial_title database = codes "Insert the entry to try into " ++ utf8_lossy (file_name database.name)
+
+-- an entry on lines of its own
+abbrev pub on_lines : List ℕ → List ℕ
+on_lines entry = codes "\n" ++ entry ++ codes "\n"
+
+-- the action that puts an entry at a database's end
+abbrev pub trial : Document → List ℕ → Data
+trial database entry =
+    action (trial_title database) (edit_at database (length database.text) (length database.text) (on_lines entry))
+
+-- a list with the action for a finding between two places, if it has an entry
+abbrev pub with_trial : Document → ℕ → ℕ → List Data → Finding → List Data
+with_trial database from to list f =
+    if not (touches from to f) || length f.entry == 0 then list else list ++ trial database f.entry ∷ []
+
+-- the actions for findings between two places; null if there is none, or the database has more than 1 GiB
+abbrev pub trials_into : List Finding → ℕ → ℕ → Document → Data
+trials_into found from to database =
+    if nat_lt 1073741824 (length database.text) then null
+    else array_if_any (fold (with_trial database from to) [] found)
+
+-- the same for the first open database, if there is one
+abbrev pub trials_if_any : List Finding → ℕ → ℕ → Option Document → Data
+trials_if_any found from to None = null
+trials_if_any found from to (Some database) = trials_into found from to database
+
+-- the actions for what was found in a style's present text, between two positions
+abbrev pub trials_between : List Checked → List Document → Document → Position → Position → Data
+trials_between checked docs d from to =
+    trials_if_any (found_for d.name d.text checked) (offset_of d.counting from d.text) (offset_of d.counting to d.text)
+    (first_database docs)
+
+-- the same, if there are two positions
+abbrev pub trials_at : List Checked → List Document → Document → Option Position → Option Position → Data
+trials_at checked docs d (Some from) (Some to) = trials_between checked docs d from to
+trials_at checked docs d (Some from) None = null
+trials_at checked docs d None to = null
+
+-- the actions for what was found in a style's present text, in the range that a message has
+abbrev pub trials : List Checked → List Document → Document → Data → Data
+trials checked docs d m =
+    trials_at checked docs d (position_at (codes "/params/range/start/line") (codes "/params/range/start/character") m)
+    (position_at (codes "/params/range/end/line") (codes "/params/range/end/character") m)

@@ -1,0 +1,36 @@
+-- The part of a document that a completion replaces.
+use Rattle.std.specs.Prelude.{ℕ, suc, ◌-◌, if◌then◌else◌, List, [], ◌∷◌}
+use Rattle.serde_json.specs.Data.{Data}
+use Rattle.bt_text.specs.NameBytes.{is_name_byte}
+use Rattle.bt_positions.specs.Positions.{position_of}
+use Rattle.bt_documents.specs.declared.document.Document.{Document}
+use Rattle.bt_mentions.specs.declared.inside.Inside.{Inside}
+use Rattle.bt_mentions.specs.declared.inside.Inside.TheVariants.{Name, Value, Braced, Quoted}
+use Rattle.bt_mentions.specs.Databases.{inside_item}
+use Rattle.bt_shapes.specs.Shapes.{range, text_edit}
+use Rattle.bt_writing.specs.declared.written.Written.{Written}
+use Rattle.bt_places.specs.Hover.{keys_at_end}
+
+-- how many bytes of names a text ends with, if so many precede it
+abbrev pub names_at_end : ℕ → List ℕ → ℕ
+names_at_end count [] = count
+names_at_end count (b ∷ t) = names_at_end (if is_name_byte b then suc count else 0) t
+
+-- how many bytes of a name a text ends with, which ends so in an item: of a key in braces and quotes, of a macro elsewhere
+abbrev pub written_in : List ℕ → Inside → ℕ
+written_in front (Name found) = keys_at_end 0 front
+written_in front (Value is_crossref) = names_at_end 0 front
+written_in front (Braced is_crossref depth) = keys_at_end 0 front
+written_in front (Quoted is_crossref depth) = keys_at_end 0 front
+
+abbrev pub written_len : List ℕ → ℕ
+written_len front = written_in front (inside_item front)
+
+-- so many bytes before a place of a document
+abbrev pub written_at : Document → ℕ → ℕ → Written
+written_at d place count =
+    record { from = position_of d.counting (place - count) d.text; to = position_of d.counting place d.text }
+
+-- the edit that writes a name there
+abbrev pub edit_of : Written → List ℕ → Data
+edit_of w name = text_edit (range w.from w.to) name

@@ -1,0 +1,160 @@
+//! Completes the keys of citations.
+
+ghost use Rattle.std.specs.Prelude.{◌≡◌, ◌<◌, ◌*◌, ◌^◌, ◌++◌, map, length, IfOk, OnOk};
+ghost use Rattle.serde_json.specs.View.{view};
+ghost use Rattle.bt_writing.specs.Citing.{after_sign, candidate, candidate_of, candidates_of, candidates_from, candidates_in, cites, citation_at};
+
+use crate::written::Written;
+use bt_bib::{PlacedPiece, read_bib};
+use bt_documents::Document;
+use bt_mentions::is_citing;
+use bt_places::{
+    Paper, closed, field_of, is_database, is_tex, key_of, keys_at_end, kind_of, shown, with_value,
+};
+use bt_positions::Position;
+use bt_text::Bytes;
+use serde_json::{Value, json};
+use std::alloc::{AllocError, Global};
+
+/// Appends a text after a sign, unless it is empty.
+fn append_after(bytes: &mut Bytes, sign: &[u8], text: &[u8]) -> Result<(), AllocError>
+    ensures { OnOk result (bytes.new ≡ after_sign sign.now text.now bytes.old) }
+{
+    if text.is_empty() {
+        return Ok(());
+    }
+    bytes.append_all(&[sign, text])
+}
+
+/// A text, and two others after signs, unless these are empty.
+fn joined(
+    alloc: Global,
+    text: &[u8],
+    first: &[u8],
+    author: &[u8],
+    second: &[u8],
+    title: &[u8],
+) -> Result<Bytes, AllocError>
+    ensures { IfOk result (λ bytes. bytes ≡ after_sign second.now title.now (after_sign first.now author.now text.now)) }
+{
+    let mut bytes = Bytes::copied(alloc, text)?;
+    append_after(&mut bytes, first, author)?;
+    append_after(&mut bytes, second, title)?;
+    Ok(bytes)
+}
+
+fn candidate(
+    alloc: Global,
+    written: Written,
+    key: &[u8],
+    kind: &[u8],
+    author: &[u8],
+    title: &[u8],
+) -> Result<Value, AllocError>
+    ensures { IfOk result (λ v. view v ≡ candidate written key.now kind.now author.now title.now) }
+{
+    let detail = joined(alloc, kind, b": ", author, b". ", title)?;
+    let filter = joined(alloc, key, b" ", author, b" ", title)?;
+    let edit = written.edit(alloc, key)?;
+    let key = shown(alloc, key)?;
+    let detail = shown(alloc, detail.as_slice())?;
+    let filter = shown(alloc, filter.as_slice())?;
+    json!(in alloc; {"label": key, "kind": 18, "detail": detail, "filterText": filter, "textEdit": edit})
+}
+
+fn add_candidate(
+    alloc: Global,
+    written: Written,
+    piece: &PlacedPiece,
+    list: Vec<Value>,
+) -> Result<Vec<Value>, AllocError>
+    ensures { IfOk result (λ all. map view all.items ≡ map view list.items ++ candidate_of written piece.now.piece) }
+{
+    let key = key_of(piece);
+    if key.is_empty() {
+        return Ok(list);
+    }
+    let author = field_of(piece, b"author");
+    let title = field_of(piece, b"title");
+    let value = candidate(alloc, written, key, kind_of(piece), author, title)?;
+    let all = with_value(list, value)?;
+    Ok(all)
+}
+
+fn add_candidates(
+    alloc: Global,
+    written: Written,
+    pieces: &[PlacedPiece],
+    list: Vec<Value>,
+) -> Result<Vec<Value>, AllocError>
+    ensures { IfOk result (λ all. map view all.items ≡ map view list.items ++ candidates_of written pieces.now) }
+{
+    let mut all = list;
+    'pieces: for piece in pieces {
+        all = add_candidate(alloc, written, piece, all)?;
+    }
+    Ok(all)
+}
+
+fn add_from(
+    alloc: Global,
+    written: Written,
+    uri: &[u8],
+    text: &[u8],
+    list: Vec<Value>,
+) -> Result<Vec<Value>, AllocError>
+    ensures { IfOk result (λ all. map view all.items ≡ map view list.items ++ candidates_from written uri.now text.now) }
+{
+    if !is_database(uri) {
+        return Ok(list);
+    }
+    let items = read_bib(alloc, text)?;
+    add_candidates(alloc, written, items.pieces(), list)
+}
+
+/// What is offered for the entries of the paper's databases.
+pub fn candidates<P: Paper>(
+    alloc: Global,
+    paper: &P,
+    written: Written,
+) -> Result<Vec<Value>, AllocError>
+    ensures { IfOk result (λ list. map view list.items ≡ candidates_in written (P.shown paper.now).files) }
+{
+    let mut list = Vec::new(alloc);
+    'files: for n in 0..paper.file_count() {
+        let (uri, text) = paper.file(n);
+        list = add_from(alloc, written, uri, text, list)?;
+    }
+    Ok(list)
+}
+
+/// Whether keys are cited after the first bytes of a file. What a comment of LaTeX leaves open cites nothing.
+fn cites(alloc: Global, name: &[u8], front: &[u8]) -> Result<bool, AllocError>
+    ensures { IfOk result (λ found. found ≡ cites name.now front.now) }
+{
+    if !is_tex(name) {
+        return Ok(is_citing(front));
+    }
+    let front = closed(alloc, front)?;
+    Ok(is_citing(front.as_slice()))
+}
+
+/// What is offered at a position of a document: all keys where keys are cited, elsewhere nothing.
+pub fn citation_at<P: Paper>(
+    alloc: Global,
+    paper: &P,
+    document: &Document,
+    at: Position,
+) -> Result<Value, AllocError>
+    requires { 2 * length document.now.text < 2 ^ 64 }
+    ensures { IfOk result (λ v. view v ≡ citation_at (P.shown paper.now).files document.now at) }
+{
+    let place = document.text.offset_of(document.counting, at);
+    let front = document.text.as_slice().split_at(place).0;
+    if !cites(alloc, document.name.as_slice(), front)? {
+        return Ok(Value::Null);
+    }
+    let written = Written::before(document, place, keys_at_end(front));
+    let list = candidates(alloc, paper, written)?;
+    Ok(Value::Array(list))
+}

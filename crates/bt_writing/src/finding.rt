@@ -1,0 +1,177 @@
+//! Finds the entry of a key, the definition of a macro, or the function of an entry's type.
+
+ghost use Rattle.std.specs.Prelude.{◌≡◌, option_map, IfOk};
+ghost use Rattle.serde_json.specs.View.{view};
+ghost use Rattle.bt_places.specs.Editor.{counting_in};
+ghost use Rattle.bt_writing.specs.Finding.{place_in, location_in, found_in, found_at, type_of, type_at, type_places, typed_or_found, definition_at};
+
+use crate::completing::has_opening;
+use bt_answers::{Loan, macro_at};
+use bt_bib::{PlacedPiece, read_bib};
+use bt_documents::Document;
+use bt_mentions::part;
+use bt_places::{
+    Editor, Paper, SHOWN_BYTES, is_database, item_around, key_of, kind_of, location, range_of,
+    with_files, word_of,
+};
+use bt_positions::{Counting, IndexedText, Position};
+use bt_style_answers::Lent;
+use bt_text::{Bytes, eq_ignore_ascii_case};
+use serde_json::Value;
+use std::alloc::{AllocError, Global};
+
+/// Where the first entry of a key begins.
+pub fn place_in(pieces: &[PlacedPiece], key: &[u8]) -> Option<usize>
+    ensures { result ≡ place_in key.now pieces.now }
+{
+    'pieces: for piece in pieces {
+        if eq_ignore_ascii_case(key_of(piece), key) {
+            return Some(piece.start.place);
+        }
+    }
+    None
+}
+
+/// Where the entry of a key begins in a file; null if it has none, or isn't a database.
+fn location_in(
+    alloc: Global,
+    counting: Counting,
+    uri: &[u8],
+    text: &[u8],
+    key: &[u8],
+) -> Result<Value, AllocError>
+    ensures { IfOk result (λ v. view v ≡ location_in counting key.now uri.now text.now) }
+{
+    if !is_database(uri) || text.len() > SHOWN_BYTES {
+        return Ok(Value::Null);
+    }
+    let items = read_bib(alloc, text)?;
+    match place_in(items.pieces(), key) {
+        Some(place) => {
+            let indexed = IndexedText::copied(alloc, text)?;
+            let range = range_of(alloc, counting, &indexed, place, place)?;
+            location(alloc, uri, range)
+        }
+        None => Ok(Value::Null),
+    }
+}
+
+/// Where the entry of a key begins: in the first of the paper's databases that has it. Null if none has.
+fn found_in<P: Paper>(
+    alloc: Global,
+    paper: &P,
+    editor: &Editor<'_>,
+    key: &[u8],
+) -> Result<Value, AllocError>
+    ensures { IfOk result (λ v. view v ≡
+        found_in (counting_in editor.now.counting editor.now.documents.now) key.now (P.shown paper.now).files) }
+{
+    'files: for n in 0..paper.file_count() {
+        let (uri, text) = paper.file(n);
+        let found = location_in(alloc, editor.counting_in(uri), uri, text, key)?;
+        if !found.is_null() {
+            return Ok(found);
+        }
+    }
+    Ok(Value::Null)
+}
+
+fn found_at<P: Paper>(
+    alloc: Global,
+    paper: &P,
+    editor: &Editor<'_>,
+    document: &Document,
+    at: Position,
+) -> Result<Value, AllocError>
+    ensures { IfOk result (λ v. view v ≡
+        found_at (P.shown paper.now).files editor.now.documents.now editor.now.counting document.now at) }
+{
+    let found = found_in(alloc, paper, editor, word_of(document, at))?;
+    Ok(found)
+}
+
+/// The type of an item around a place, if no brace or parenthesis opens before the place; empty otherwise.
+fn type_of<'a>(around: Option<&'a PlacedPiece>, text: &[u8], place: usize) -> &'a [u8]
+    ensures { result.now ≡ type_of text.now place (option_map (λ p. p.now) around.entry) }
+{
+    match around {
+        Some(piece) => if has_opening(part(text, piece.start.place, place)) {
+            &[]
+        } else {
+            kind_of(piece)
+        },
+        None => &[],
+    }
+}
+
+/// The entry's type at a position of a document; empty if it is no database, or if no type is there.
+fn type_at(alloc: Global, document: &Document, at: Position) -> Result<Bytes, AllocError>
+    ensures { IfOk result (λ kind. kind ≡ type_at document.now at) }
+{
+    if !is_database(document.name.as_slice()) {
+        return Ok(Bytes::new(alloc));
+    }
+    let text = document.text.as_slice();
+    let place = document.text.offset_of(document.counting, at);
+    let items = read_bib(alloc, text)?;
+    let around = item_around(items.pieces(), place);
+    Bytes::copied(alloc, type_of(around, text, place))
+}
+
+/// Where the paper's style declares the function of a type.
+fn type_places<P: Paper>(
+    alloc: Global,
+    paper: &P,
+    editor: &Editor<'_>,
+    kind: &[u8],
+) -> Result<Value, AllocError>
+    ensures { IfOk result (λ v. view v ≡
+        type_places (P.shown paper.now).files editor.now.documents.now editor.now.counting kind.now) }
+{
+    let loan = Loan {
+        editor: *editor,
+        lent: Lent::Function,
+        name: kind,
+    };
+    let list = with_files(alloc, paper, &loan, Vec::new(alloc))?;
+    Ok(Value::Array(list))
+}
+
+fn typed_or_found<P: Paper>(
+    alloc: Global,
+    paper: &P,
+    editor: &Editor<'_>,
+    document: &Document,
+    at: Position,
+    kind: &[u8],
+) -> Result<Value, AllocError>
+    ensures { IfOk result (λ v. view v ≡
+        typed_or_found (P.shown paper.now).files editor.now.documents.now editor.now.counting document.now at kind.now) }
+{
+    match kind {
+        [] => found_at(alloc, paper, editor, document, at),
+        [_, ..] => type_places(alloc, paper, editor, kind),
+    }
+}
+
+/// Where the macro or the entry's type at a position of a document is defined; if there is none, where the entry of the key
+/// there begins.
+pub fn definition_at<P: Paper>(
+    alloc: Global,
+    paper: &P,
+    editor: &Editor<'_>,
+    document: &Document,
+    at: Position,
+) -> Result<Value, AllocError>
+    ensures { IfOk result (λ v. view v ≡
+        definition_at (P.shown paper.now).files editor.now.documents.now editor.now.counting document.now at) }
+{
+    match macro_at(alloc, paper, editor, document, at)? {
+        Some(found) => Ok(found),
+        None => {
+            let kind = type_at(alloc, document, at)?;
+            let found = typed_or_found(alloc, paper, editor, document, at, kind.as_slice())?;
+            Ok(found)
+        }
+    }
+}
