@@ -73,6 +73,7 @@
   (said "")                 ; the first line on standard error
   (ends nil) resting        ; when the program ended, and whether it waits for a change
   (bbl "") (blg "") (messages nil)
+  (old nil)                             ; whether the last good bibliography is kept
   (refusals nil)            ; texts that aren't sent: (NAME CODE . BYTES)
   key view buffer)
 
@@ -380,8 +381,10 @@ The .aux files come first and the style last, so that its functions are run once
         (progn (setf (bibtex-live--paper-blg paper) text
                      (bibtex-live--paper-stale paper) 'bbl)
                (bibtex-live--read paper))
-      (setf (bibtex-live--paper-bbl paper) text
+      ;; If there is no bibliography, as while a style is being written, the last one stays.
+      (setf (bibtex-live--paper-old paper) (and (equal text "") (not (equal (bibtex-live--paper-bbl paper) "")))
             (bibtex-live--paper-stale paper) nil)
+      (unless (bibtex-live--paper-old paper) (setf (bibtex-live--paper-bbl paper) text))
       (bibtex-live--show paper)
       (bibtex-live--list paper)
       (bibtex-live--diagnose paper))
@@ -527,7 +530,17 @@ They are those of the buffer where it has changes that aren't saved, else those 
                                  line))
                 (t (add :note line))))))
     (setf (bibtex-live--paper-messages paper)
-          (append (bibtex-live--refused paper) (bibtex-live--locate paper (nreverse messages))))))
+          (append (bibtex-live--refused paper) (bibtex-live--fold (bibtex-live--locate paper (nreverse messages)))))))
+
+(defun bibtex-live--fold (messages)
+  "Drop all but the first of MESSAGES about citations without an entry while a database is missing."
+  (cl-flet ((all (words) (seq-filter (lambda (message) (string-prefix-p words (bibtex-live--message-text message))) messages)))
+    (let ((lost (all "I didn't find a database entry for ")))
+      (when (and (cdr lost) (all "I couldn't open database file "))
+        (setf (bibtex-live--message-text (car lost))
+              (format "%s (nor for %d others, while a database is missing)" (bibtex-live--message-text (car lost)) (length (cdr lost)))
+              messages (seq-remove (lambda (message) (memq message (cdr lost))) messages)))
+      messages)))
 
 (defun bibtex-live--refused (paper)
   "Messages about the texts of PAPER that aren't sent."
@@ -644,7 +657,8 @@ only the first 25 of them are looked for."
     (cl-flet ((count (type word)
                 (let ((n (cl-count type (bibtex-live--paper-messages paper) :key #'bibtex-live--message-type)))
                   (format " %d %s%s" n word (if (= n 1) "" "s")))))
-      (concat (count :error "error") (count :warning "warning")))))
+      (concat (count :error "error") (count :warning "warning")
+              (and (bibtex-live--paper-old paper) " (the last good bibliography)")))))
 
 (defun bibtex-live--open (paper)
   "Show the window of PAPER."

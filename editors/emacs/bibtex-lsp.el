@@ -9,12 +9,37 @@
 ;;
 ;;   (load "~/.local/share/dulshenko/editors/emacs/bibtex-lsp.el")
 ;;
-;; The paper is that of the file's `% !TEX root', else the newest .aux file that names a database: in the file's folder, in
-;; an output folder of it, or in the folder above.  `bibtex-lsp-job' names another job.
+;; The paper is that of the file's `% !TEX root', else the newest .aux file that names the file: in the file's folder, in an
+;; output folder of it, or in the folder above; else the newest one that names a database.  Eglot starts one server for each
+;; project, so all files of a project belong to the paper of the first one.  M-x bibtex-root chooses another paper.
+;; `bibtex-lsp-job' names a job.
+;;
+;; What an entry prints is shown in the echo area, and whole by M-x eldoc-doc-buffer.  M-x bibtex-bibliography opens a window
+;; with the bibliography, which follows each change; in it, M-. goes to the field that a character comes from, and C-c M-. to
+;; the word of the style that wrote it.  M-x bibtex-log opens one with the log of the run.  A file that a definition leads to
+;; has the same server, also outside of the project: for this, `eglot-extend-to-xref' is set.
 
 ;;; Code:
 
+(require 'cl-lib)
+(require 'filenotify)
 (require 'seq)
+
+(declare-function eglot "eglot")
+(declare-function eglot--guess-contact "eglot")
+(declare-function eglot--lsp-position-to-point "eglot")
+(declare-function eglot--path-to-uri "eglot")
+(declare-function eglot--pos-to-lsp-position "eglot")
+(declare-function eglot--uri-to-path "eglot")
+(declare-function eglot-current-server "eglot")
+(declare-function eglot-shutdown "eglot")
+(declare-function jsonrpc--process "jsonrpc")
+(declare-function jsonrpc-async-request "jsonrpc")
+(declare-function jsonrpc-notify "jsonrpc")
+(declare-function jsonrpc-request "jsonrpc")
+(declare-function jsonrpc-running-p "jsonrpc")
+(defvar eglot-extend-to-xref)
+(defvar eglot--servers-by-xrefed-file)
 
 (defvar bibtex-lsp-program "bibtex-lsp" "The program.")
 (defvar bibtex-lsp-job nil "The job, the name of its .aux file without .aux, or nil.")
@@ -37,42 +62,197 @@
     (seq-filter #'file-directory-p
                 (cons folder (mapcar (lambda (name) (expand-file-name name folder)) names)))))
 
-(defun bibtex-lsp--newest (folder)
-  "The newest .aux file of FOLDER or its output folders that names a database, or nil."
-  (car (sort (seq-filter #'bibtex-lsp--names-database
-                         (seq-mapcat (lambda (place) (directory-files place t "\\.aux\\'")) (bibtex-lsp--outputs folder)))
-             #'file-newer-than-file-p)))
+(defun bibtex-lsp--jobs (folder)
+  "The .aux files of FOLDER and its output folders that name a database, the newest first."
+  (sort (seq-filter #'bibtex-lsp--names-database
+                    (seq-mapcat (lambda (place) (directory-files place t "\\.aux\\'")) (bibtex-lsp--outputs folder)))
+        #'file-newer-than-file-p))
 
-(defun bibtex-lsp--aux ()
-  "The .aux file of the present buffer's paper, or nil."
-  (let ((root (save-excursion
-                (save-restriction
-                  (widen)
-                  (goto-char (point-min))
-                  (let ((case-fold-search t))
-                    (when (re-search-forward "^[ \t]*%[ \t]*!tex[ \t]+root[ \t]*=[ \t]*\\(.*[^ \t\n]\\)" 2000 t)
-                      (expand-file-name (match-string-no-properties 1))))))))
-    (if root
-        (let ((name (concat (file-name-nondirectory (replace-regexp-in-string "\\.tex\\'" "" root)) ".aux")))
-          (seq-find #'file-readable-p
-                    (mapcar (lambda (place) (expand-file-name name place))
-                            (bibtex-lsp--outputs (file-name-directory root)))))
-      (or (bibtex-lsp--newest default-directory)
-          (bibtex-lsp--newest (file-name-directory (directory-file-name default-directory)))))))
+(defun bibtex-lsp--is-about (aux file)
+  "Whether the file AUX names FILE: as a database, as the style, or as a part of the paper."
+  (let* ((kind (or (file-name-extension file) ""))
+         (command (cond ((equal kind "bib") "bibdata") ((equal kind "bst") "bibstyle") (t "@input")))
+         (name (concat (regexp-quote (file-name-base file)) (if (equal command "@input") "\\.aux" (concat "\\(?:\\." kind "\\)?")))))
+    (with-temp-buffer
+      (insert-file-contents aux)
+      (re-search-forward (concat "^\\\\" command "{\\(?:[^}\n]*[,/]\\)?" name "[,}]") nil t))))
+
+(defun bibtex-lsp--near ()
+  "The folders whose papers may have the present file."
+  (let ((here (expand-file-name default-directory)))
+    (list here (file-name-directory (directory-file-name here)))))
+
+(defun bibtex-lsp--root ()
+  "The file that the present buffer's `% !TEX root' names, or nil."
+  (save-excursion
+    (save-restriction
+      (widen)
+      (goto-char (point-min))
+      (let ((case-fold-search t))
+        (when (re-search-forward "^[ \t]*%[ \t]*!tex[ \t]+root[ \t]*=[ \t]*\\(.*[^ \t\n]\\)" 2000 t)
+          (expand-file-name (match-string-no-properties 1)))))))
+
+(defun bibtex-lsp--found (file)
+  "The .aux file of FILE among those that are near, and the paper's folder, or nil."
+  (let ((jobs (seq-mapcat (lambda (folder) (mapcar (lambda (aux) (cons aux folder)) (bibtex-lsp--jobs folder))) (bibtex-lsp--near))))
+    (or (and (not (member (file-name-extension file) '("bib" "bst")))
+             (seq-find (lambda (job) (equal (file-name-base (car job)) (file-name-base file))) jobs))
+        (seq-find (lambda (job) (bibtex-lsp--is-about (car job) file)) jobs)
+        (car jobs))))
+
+(defvar bibtex-lsp--chosen nil "The .aux files that `bibtex-root' has chosen, by the folder of the files.")
+
+(defun bibtex-lsp--paper ()
+  "The .aux file of the present buffer's paper, or nil, and the paper's folder."
+  (let ((chosen (cdr (assoc (car (bibtex-lsp--near)) bibtex-lsp--chosen)))
+        (root (bibtex-lsp--root)))
+    (cond (chosen (cons chosen (or (seq-find (lambda (folder) (member chosen (bibtex-lsp--jobs folder))) (bibtex-lsp--near))
+                                   (file-name-directory chosen))))
+          (root (let ((folder (file-name-directory root))
+                      (name (concat (file-name-nondirectory (replace-regexp-in-string "\\.tex\\'" "" root)) ".aux")))
+                  (cons (seq-find #'file-readable-p (mapcar (lambda (place) (expand-file-name name place)) (bibtex-lsp--outputs folder)))
+                        folder)))
+          (t (or (bibtex-lsp--found (or buffer-file-name "")) (cons nil (car (bibtex-lsp--near))))))))
 
 (defun bibtex-lsp-contact (&rest _)
   "The command that starts the server for the present buffer."
-  (let* ((aux (bibtex-lsp--aux))
-         (folder (expand-file-name default-directory))
+  (let* ((paper (bibtex-lsp--paper))
+         (aux (car paper))
          (job (or bibtex-lsp-job (and aux (file-name-base aux)))))
-    (append (list bibtex-lsp-program
-                  (concat "--search=" folder)
-                  (concat "--search=" (file-name-directory (directory-file-name folder))))
-            (when aux (list (concat "--search=" (file-name-directory aux))))
+    (append (list bibtex-lsp-program)
+            (mapcar (lambda (folder) (concat "--search=" (file-truename folder))) ; as in Eglot's URIs
+                    (delete-dups (delq nil (append (list (cdr paper) (and aux (file-name-directory aux))) (bibtex-lsp--near)))))
             (when job (list (concat "--job=" job))))))
 
+;;; Commands
+
+;;;###autoload
+(defun bibtex-root (aux)
+  "Choose the paper of the files in this folder, by its .aux file AUX, and start its server."
+  (interactive (list (let ((jobs (seq-mapcat #'bibtex-lsp--jobs (bibtex-lsp--near))))
+                       (completing-read "The paper of this folder: " jobs nil nil nil nil (car jobs)))))
+  (setf (alist-get (car (bibtex-lsp--near)) bibtex-lsp--chosen nil nil #'equal) (expand-file-name aux))
+  (require 'eglot)
+  (let ((server (eglot-current-server)))
+    (when server
+      (eglot-shutdown server)
+      ;; Eglot would go on sending it the files that it led to.
+      (maphash (lambda (file other) (when (eq other server) (remhash file eglot--servers-by-xrefed-file)))
+               eglot--servers-by-xrefed-file)))
+  (apply #'eglot (eglot--guess-contact)))
+
+(defvar-local bibtex-lsp--source nil "The server and the request whose answer this buffer shows.")
+
+(defun bibtex-lsp--fill (buffer text)
+  "Put TEXT into BUFFER.  If a style that can't be read leaves no bibliography, the last good one stays, marked."
+  (let ((mark "% This is the last good bibliography: the messages of the run say why there is no new one.\n"))
+    (with-current-buffer buffer
+      (let ((inhibit-read-only t)
+            (is-kept (and (equal text "") (eq (cdr bibtex-lsp--source) :bibtex/bbl))))
+        (cond ((not is-kept) (with-temp-buffer
+                               (insert text)
+                               (let ((new (current-buffer))) (with-current-buffer buffer (replace-buffer-contents new)))))
+              ((save-excursion (goto-char (point-min)) (not (looking-at-p (regexp-quote mark))))
+               (save-excursion (goto-char (point-min)) (insert mark))))))))
+
+(defun bibtex-lsp--show (server)
+  "Fill the buffers that show an answer of SERVER."
+  (dolist (buffer (buffer-list))
+    (let ((source (buffer-local-value 'bibtex-lsp--source buffer)))
+      (when (eq (car source) server)
+        (jsonrpc-async-request server (cdr source) nil
+                               :success-fn (lambda (answer)
+                                             (when (buffer-live-p buffer) (bibtex-lsp--fill buffer (plist-get answer :text))))
+                               :error-fn #'ignore :timeout-fn #'ignore)))))
+
+(defun bibtex-lsp--follow (name request)
+  "Show the answers to REQUEST in the buffer NAME."
+  (let ((server (or (and (fboundp 'eglot-current-server) (eglot-current-server)) (car bibtex-lsp--source))))
+    (unless server (user-error "Type M-x eglot in a file of the paper first"))
+    (with-current-buffer (get-buffer-create name)
+      (unless (derived-mode-p 'special-mode) (special-mode))
+      (setq bibtex-lsp--source (cons server request))
+      (local-set-key (kbd "M-.") #'bibtex-lsp-field)
+      (local-set-key (kbd "C-c M-.") #'bibtex-lsp-word)
+      (display-buffer (current-buffer)))
+    (bibtex-lsp--show server)))
+
+;;;###autoload
+(defun bibtex-bibliography ()
+  "Show the bibliography in a window that follows each change."
+  (interactive)
+  (bibtex-lsp--follow "*bibtex bibliography*" :bibtex/bbl))
+
+;;;###autoload
+(defun bibtex-log ()
+  "Show the log of the run in a window that follows each change."
+  (interactive)
+  (bibtex-lsp--follow "*bibtex log*" :bibtex/log))
+
+(defun bibtex-lsp--go (what)
+  "Go to where the character at point comes from: WHAT is :field or :word."
+  (let* ((origin (jsonrpc-request (car bibtex-lsp--source) :bibtex/origin (list :position (eglot--pos-to-lsp-position))))
+         (place (plist-get origin what)))
+    (unless place (user-error "Nothing is known of this place"))
+    (let ((server (car bibtex-lsp--source))
+          (file (eglot--uri-to-path (plist-get place :uri))))
+      (bibtex-lsp--led server file)
+      (find-file-other-window file)
+      (goto-char (eglot--lsp-position-to-point (plist-get (plist-get place :range) :start))))))
+
+(defun bibtex-lsp-field () "Go to the field that the character at point comes from." (interactive) (bibtex-lsp--go :field))
+(defun bibtex-lsp-word () "Go to the word of the style that wrote the character at point." (interactive) (bibtex-lsp--go :word))
+
+;;; Eglot
+
+(defun bibtex-lsp--led (server file)
+  "Note that SERVER leads to FILE, as Eglot does for a definition."
+  (puthash (expand-file-name file) server eglot--servers-by-xrefed-file))
+
+(defvar bibtex-lsp--names (make-hash-table :test #'equal) "The servers' URIs of files that have dots in them, by file.")
+
+(defun bibtex-lsp--learn (uri-to-path uri)
+  "Call URI-TO-PATH with URI.  If it has the database ../bib/b in it, as the .aux file does, note it for the file."
+  (let ((file (funcall uri-to-path uri)))
+    (when (and (stringp uri) (string-match-p "/\\.\\.?/" uri)) (puthash (expand-file-name file) uri bibtex-lsp--names))
+    file))
+
+(defun bibtex-lsp--translate (path-to-uri file)
+  "The URI of FILE that a server has given it, else the one that PATH-TO-URI returns."
+  (or (gethash file bibtex-lsp--names) (funcall path-to-uri file)))
+
+(defun bibtex-lsp--changed (server file)
+  "Tell SERVER that FILE has changed on disk."
+  (when (jsonrpc-running-p server)
+    (jsonrpc-notify server :workspace/didChangeWatchedFiles `(:changes [(:uri ,(eglot--path-to-uri file) :type 2)]))))
+
+(defun bibtex-lsp--watch (server)
+  "Watch the folders of SERVER's paper, in which LaTeX writes files.  Eglot watches none unless a server asks for it."
+  (let ((command (process-command (jsonrpc--process server)))
+        timer)
+    (when (equal (car command) bibtex-lsp-program)
+      (dolist (word command)
+        (when (and (string-match "\\`--search=\\(.*\\)" word) (file-directory-p (match-string 1 word)))
+          (file-notify-add-watch
+           (match-string 1 word) '(change)
+           (lambda (event)
+             (let ((file (car (last event))))
+               (cond ((eq (nth 1 event) 'stopped))
+                     ((not (jsonrpc-running-p server)) (file-notify-rm-watch (car event)))
+                     ((and (stringp file) (string-match-p "/[^.][^/]*\\.\\(?:aux\\|bib\\|bst\\)\\'" file))
+                      ;; LaTeX writes a file in pieces: wait until it is quiet.
+                      (when timer (cancel-timer timer))
+                      (setq timer (run-with-timer 0.2 nil #'bibtex-lsp--changed server file))))))))))))
+
 (with-eval-after-load 'eglot
-  (add-to-list 'eglot-server-programs '((bibtex-mode bibtex-style-mode latex-mode tex-mode) . bibtex-lsp-contact)))
+  (add-to-list 'eglot-server-programs '((bibtex-mode bibtex-style-mode latex-mode tex-mode) . bibtex-lsp-contact))
+  (setq eglot-extend-to-xref t)
+  (add-hook 'eglot-connect-hook #'bibtex-lsp--watch)
+  (advice-add 'eglot--uri-to-path :around #'bibtex-lsp--learn)
+  (advice-add 'eglot--path-to-uri :around #'bibtex-lsp--translate)
+  ;; Diagnostics come after each change.
+  (cl-defmethod eglot-handle-notification :after (server (_method (eql textDocument/publishDiagnostics)) &rest _)
+    (bibtex-lsp--show server)))
 
 (provide 'bibtex-lsp)
 ;;; bibtex-lsp.el ends here

@@ -1,8 +1,9 @@
 // Starts bibtex-lsp for the files of a paper, and shows its answers: messages, hover, definition, completion, symbols, code
-// lenses, and the bibliography in a document that follows each letter. It uses nothing but VS Code and Node, so there is no build step.
+// lenses, and the bibliography and the log in documents that follow each letter. It uses nothing but VS Code and Node, so there is no build step.
 //
-// Each folder of a paper has one server. The folder is that of the file's `% !TEX root`, else the file's own, else the one
-// above, if an .aux file there (or in an output folder of it) names a database.
+// Each paper has one server. A file's paper is that of its `% !TEX root`, else the newest .aux file that names the file: in
+// the file's folder, in an output folder of it, or in the folder above. A file that no .aux file names joins the paper whose
+// definition led to it, else the newest paper there. A command chooses another one, for all files of the folder.
 'use strict';
 const vscode = require('vscode');
 const { spawn } = require('child_process');
@@ -10,7 +11,9 @@ const fs = require('fs');
 const path = require('path');
 
 const LANGUAGES = ['bibtex', 'bst', 'latex', 'tex'];
-const servers = new Map(); // by the paper's folder
+const servers = new Map(); // by the paper's .aux file, or its folder
+const chosen = new Map(); // the .aux file that the user chose, by the folder of the files
+const leads = new Map(); // by a file's path: the server whose answer led there, and the file's URI in it
 let diagnostics, shown;
 
 // --- The paper of a file ---
@@ -25,44 +28,59 @@ function outputs(folder) {
   return [folder, ...names.map(name => path.resolve(folder, name))];
 }
 
-// The newest .aux file of a folder or its output folders that names a database.
-function newestAux(folder) {
-  let newest = null, time = -1;
-  for (const place of outputs(folder)) {
+// The .aux files of a folder and its output folders that name a database, the newest first.
+function jobs(folder) {
+  const found = [];
+  for (const output of outputs(folder)) {
     let names = [];
-    try { names = fs.readdirSync(place); } catch (_) { continue; }
+    try { names = fs.readdirSync(output); } catch (_) { continue; }
     for (const name of names.filter(name => name.endsWith('.aux'))) {
-      const file = path.join(place, name);
+      const aux = path.join(output, name);
       try {
-        const at = fs.statSync(file).mtimeMs;
-        if (at > time && /^\\bibdata\{/m.test(fs.readFileSync(file, 'latin1'))) [newest, time] = [file, at];
+        const text = fs.readFileSync(aux, 'latin1');
+        if (/^\\bibdata\{/m.test(text)) found.push({ folder, output, job: path.basename(aux, '.aux'), aux, text, time: fs.statSync(aux).mtimeMs });
       } catch (_) { /* it is gone */ }
     }
   }
-  return newest;
+  return found.sort((one, other) => other.time - one.time);
 }
 
+// Whether an .aux file names a file: as a database, as the style, or as a part of the paper.
+function isAbout(job, file) {
+  const { name, ext } = path.parse(file);
+  const command = { '.bib': 'bibdata', '.bst': 'bibstyle' }[ext] || '@input';
+  const named = [...job.text.matchAll(new RegExp(`\\\\${command}\\{([^}]*)\\}`, 'g'))].flatMap(found => found[1].split(','));
+  return named.some(one => [name, name + (command === '@input' ? '.aux' : ext)].includes(path.basename(one)));
+}
+
+const near = file => [path.dirname(file), path.dirname(path.dirname(file))];
+
+// The paper of a document, and whether the document names it or it names the document.
 function paperOf(document) {
-  const own = path.dirname(document.uri.fsPath);
+  const file = document.uri.fsPath;
+  const own = path.dirname(file);
+  const found = near(file).flatMap(jobs);
+  if (chosen.has(own)) return { ...chosen.get(own), isNamed: true };
   const root = /^\s*%\s*!\s*TEX\s+root\s*=\s*(.+?)\s*$/im.exec(document.getText().slice(0, 2000));
   if (root) {
-    const file = path.resolve(own, root[1]);
-    const name = path.basename(file).replace(/\.tex$/i, '');
-    const folder = path.dirname(file);
-    return { folder, job: name, output: outputs(folder).find(place => fs.existsSync(path.join(place, name + '.aux'))) || folder };
+    const main = path.resolve(own, root[1]);
+    const job = path.basename(main).replace(/\.tex$/i, '');
+    const folder = path.dirname(main);
+    return { folder, job, output: outputs(folder).find(place => fs.existsSync(path.join(place, job + '.aux'))) || folder, isNamed: true };
   }
-  for (const folder of [own, path.dirname(own)]) {
-    const aux = newestAux(folder);
-    if (aux) return { folder, job: path.basename(aux, '.aux'), output: path.dirname(aux) };
-  }
-  return { folder: own, job: '', output: own };
+  const isOwn = one => !/\.b(ib|st)$/.test(file) && one.job === path.parse(file).name;
+  const named = found.find(isOwn) || found.find(one => isAbout(one, file));
+  return named ? { ...named, isNamed: true } : found[0] || { folder: own, job: '', output: own };
 }
+
+const keyOf = paper => paper.job ? path.join(paper.output, paper.job) : paper.folder;
 
 // --- A server ---
 
 class Server {
   constructor(paper) {
     Object.assign(this, { paper, waiting: new Map(), next: 1, input: Buffer.alloc(0), documents: new Set(), ended: false });
+    this.watchers = [...new Set([paper.folder, paper.output])].map(folder => watch(new vscode.RelativePattern(vscode.Uri.file(folder), WRITTEN), [this]));
     const settings = vscode.workspace.getConfiguration('bibtexLsp');
     const job = settings.get('job') || paper.job;
     const words = [...(job ? ['--job=' + job] : []), '--search=' + paper.folder, '--search=' + paper.output, ...settings.get('arguments')];
@@ -80,7 +98,8 @@ class Server {
   end(words) {
     if (this.ended) return;
     this.ended = true;
-    servers.delete(this.paper.folder);
+    if (servers.get(keyOf(this.paper)) === this) servers.delete(keyOf(this.paper));
+    for (const watcher of this.watchers) watcher.dispose();
     for (const { reject } of this.waiting.values()) reject(new Error(words));
     for (const uri of this.documents) diagnostics.delete(vscode.Uri.parse(uri));
     if (words) vscode.window.showWarningMessage(words);
@@ -117,7 +136,7 @@ class Server {
   take(message) {
     if (message.method === 'textDocument/publishDiagnostics') {
       const kinds = [0, 0, 1, 2, 3]; // severities of the protocol, as VS Code counts them
-      diagnostics.set(vscode.Uri.parse(message.params.uri), message.params.diagnostics.map(one => {
+      diagnostics.set(uriOf(message.params.uri), message.params.diagnostics.map(one => {
         const found = new vscode.Diagnostic(rangeOf(one.range), one.message, kinds[one.severity || 1]);
         found.source = one.source;
       found.tags = one.tags; // 1 marks what is unnecessary, as in the protocol
@@ -136,12 +155,39 @@ class Server {
   }
 
   open(document) {
-    const uri = document.uri.toString();
-    if (this.documents.has(uri)) return;
-    this.documents.add(uri);
-    this.note('textDocument/didOpen', { textDocument: { uri, languageId: document.languageId, version: document.version, text: document.getText() } });
+    if (this.documents.has(document.uri.toString())) return;
+    this.documents.add(document.uri.toString());
+    this.note('textDocument/didOpen', {
+      textDocument: { uri: this.name(document), languageId: document.languageId, version: document.version, text: document.getText() },
+    });
+  }
+
+  close(document) {
+    this.note('textDocument/didClose', { textDocument: { uri: this.name(document) } });
+    this.documents.delete(document.uri.toString());
+    diagnostics.delete(document.uri);
+  }
+
+  // The server's URI of a document, which has the database ../bib/b in it as the .aux file does.
+  name(document) {
+    const lead = leads.get(document.uri.fsPath);
+    return lead && lead.server === this ? lead.uri : document.uri.toString();
+  }
+
+  // The place of an answer.
+  location({ uri, range }) {
+    leads.set(uriOf(uri).fsPath, { server: this, uri });
+    return new vscode.Location(uriOf(uri), rangeOf(range));
+  }
+
+  async stop() {
+    servers.delete(keyOf(this.paper));
+    await Promise.race([this.ask('shutdown', null).catch(() => {}), new Promise(resolve => setTimeout(resolve, 1000))]);
+    this.note('exit', null);
   }
 }
+
+const uriOf = uri => vscode.Uri.file(path.normalize(vscode.Uri.parse(uri).fsPath));
 
 const rangeOf = range => new vscode.Range(range.start.line, range.start.character, range.end.line, range.end.character);
 const isOurs = document => document.uri.scheme === 'file' && (LANGUAGES.includes(document.languageId) || /\.(bib|bst|aux)$/.test(document.uri.fsPath));
@@ -151,8 +197,9 @@ async function serverOf(document) {
   const known = [...servers.values()].find(server => server.documents.has(document.uri.toString()));
   if (known) return known;
   const paper = paperOf(document);
-  if (!servers.has(paper.folder)) servers.set(paper.folder, new Server(paper));
-  const server = servers.get(paper.folder);
+  const lead = leads.get(document.uri.fsPath);
+  let server = !paper.isNamed && lead && !lead.server.ended ? lead.server : servers.get(keyOf(paper));
+  if (!server) servers.set(keyOf(paper), server = new Server(paper));
   await server.ready;
   server.open(document);
   return server;
@@ -162,13 +209,13 @@ async function serverOf(document) {
 async function askAt(document, position, method) {
   try {
     const server = await serverOf(document);
-    return await server.ask(method, { textDocument: { uri: document.uri.toString() }, position });
+    return await server.ask(method, { textDocument: { uri: server.name(document) }, position });
   } catch (_) {
     return null;
   }
 }
 
-// --- The bibliography as a document ---
+// --- The bibliography and the log as documents ---
 
 class Bibliography {
   constructor() {
@@ -176,23 +223,24 @@ class Bibliography {
     this.onDidChange = this.events.event;
   }
 
-  uri(server) { return vscode.Uri.parse('bibtex-bibliography:' + encodeURI(path.join(server.paper.folder, (server.paper.job || 'paper') + '.bbl'))); }
+  uri(server, kind) { return vscode.Uri.parse('bibtex-bibliography:' + encodeURI(path.join(server.paper.output, (server.paper.job || 'paper') + kind))); }
 
-  changed(server) { this.events.fire(this.uri(server)); }
+  changed(server) { for (const kind of ['.bbl', '.blg']) this.events.fire(this.uri(server, kind)); }
 
-  server(uri) { return [...servers.values()].find(server => this.uri(server).toString() === uri.toString()); }
+  server(uri) { return [...servers.values()].find(server => ['.bbl', '.blg'].some(kind => this.uri(server, kind).toString() === uri.toString())); }
 
   // Where the byte at a position comes from: the `field`, or the style's `word`.
   async origin(document, position, what) {
     const server = this.server(document.uri);
     const answer = server && await server.ask('bibtex/origin', { position }).catch(() => null);
     const place = answer && answer[what];
-    return place && new vscode.Location(vscode.Uri.parse(place.uri), rangeOf(place.range));
+    return place && server.location(place);
   }
 
   async provideTextDocumentContent(uri) {
     const server = this.server(uri);
     if (!server) return '';
+    if (uri.toString().endsWith('.blg')) return (await server.ask('bibtex/log', {})).text;
     const { text } = await server.ask('bibtex/bbl', {});
     if (text) server.last = text;
     else if (server.last) return `% This is the last good bibliography: the messages of the run say why there is no new one.\n${server.last}`;
@@ -202,11 +250,33 @@ class Bibliography {
 
 // --- VS Code ---
 
-// Tells the servers that files have changed on disk, as the .aux file that LaTeX writes.
-function watch() {
-  const watcher = vscode.workspace.createFileSystemWatcher('**/*.{aux,bib,bst}');
-  const tell = type => uri => servers.forEach(server => server.note('workspace/didChangeWatchedFiles', { changes: [{ uri: uri.toString(), type }] }));
-  return [watcher, watcher.onDidCreate(tell(1)), watcher.onDidChange(tell(2)), watcher.onDidDelete(tell(3))];
+const WRITTEN = '*.{aux,bib,bst}';
+
+// Tells servers that files have changed on disk, as the .aux file that LaTeX writes. VS Code watches a pattern without a
+// folder only in the workspace.
+function watch(pattern, these) {
+  const watcher = vscode.workspace.createFileSystemWatcher(pattern);
+  const tell = type => uri => these.forEach(server => server.note('workspace/didChangeWatchedFiles', { changes: [{ uri: uri.toString(), type }] }));
+  watcher.onDidCreate(tell(1));
+  watcher.onDidChange(tell(2));
+  watcher.onDidDelete(tell(3));
+  return watcher;
+}
+
+// Lets the user choose the paper of a document and of all others in its folder.
+async function choose(document, opened) {
+  const folder = path.dirname(document.uri.fsPath);
+  const found = near(document.uri.fsPath).flatMap(jobs);
+  const name = await vscode.window.showQuickPick(found.map(one => one.aux), { title: 'The paper of this folder' });
+  if (!name) return;
+  chosen.set(folder, found.find(one => one.aux === name));
+  for (const server of [...servers.values()]) {
+    for (const other of vscode.workspace.textDocuments) {
+      if (path.dirname(other.uri.fsPath) === folder && server.documents.has(other.uri.toString())) server.close(other);
+    }
+    if (server.documents.size === 0) await server.stop();
+  }
+  vscode.workspace.textDocuments.forEach(opened);
 }
 
 function activate(context) {
@@ -216,7 +286,14 @@ function activate(context) {
   const opened = document => { if (isOurs(document)) serverOf(document).catch(() => {}); };
   const withServer = (document, then) => {
     const server = [...servers.values()].find(server => server.documents.has(document.uri.toString()));
-    if (server) then(server, document.uri.toString());
+    if (server) then(server, server.name(document));
+  };
+  const showing = kind => async () => {
+    const editor = vscode.window.activeTextEditor;
+    if (!editor || !isOurs(editor.document)) return vscode.window.showWarningMessage('Open a file of the paper first.');
+    const server = await serverOf(editor.document);
+    const document = await vscode.workspace.openTextDocument(shown.uri(server, kind));
+    return vscode.window.showTextDocument(document, { viewColumn: vscode.ViewColumn.Beside, preserveFocus: true });
   };
   context.subscriptions.push(
     diagnostics,
@@ -230,11 +307,8 @@ function activate(context) {
       });
     })),
     vscode.workspace.onDidSaveTextDocument(document => withServer(document, (server, uri) => server.note('textDocument/didSave', { textDocument: { uri } }))),
-    vscode.workspace.onDidCloseTextDocument(document => withServer(document, (server, uri) => {
-      server.documents.delete(uri);
-      server.note('textDocument/didClose', { textDocument: { uri } });
-    })),
-    ...watch(),
+    vscode.workspace.onDidCloseTextDocument(document => withServer(document, server => server.close(document))),
+    watch('**/' + WRITTEN, servers),
     // Names in styles have dots and dollars.
     vscode.languages.setLanguageConfiguration('bst', { wordPattern: /[^\s{}"'#%]+/ }),
     vscode.languages.registerHoverProvider(selector, {
@@ -246,7 +320,8 @@ function activate(context) {
     vscode.languages.registerDefinitionProvider(selector, {
       async provideDefinition(document, position) {
         const answer = await askAt(document, position, 'textDocument/definition');
-        return answer && [].concat(answer).map(one => new vscode.Location(vscode.Uri.parse(one.uri), rangeOf(one.range)));
+        const server = answer && await serverOf(document);
+        return answer && [].concat(answer).map(one => server.location(one));
       },
     }),
     vscode.languages.registerDefinitionProvider({ scheme: 'bibtex-bibliography' }, {
@@ -279,12 +354,11 @@ function activate(context) {
         return (answer || []).map(one => new vscode.DocumentSymbol(one.name, one.detail || '', (one.kind || 1) - 1, rangeOf(one.range), rangeOf(one.selectionRange)));
       },
     }),
-    vscode.commands.registerCommand('bibtexLsp.showBibliography', async () => {
+    vscode.commands.registerCommand('bibtexLsp.showBibliography', showing('.bbl')),
+    vscode.commands.registerCommand('bibtexLsp.showLog', showing('.blg')),
+    vscode.commands.registerCommand('bibtexLsp.chooseRoot', async () => {
       const editor = vscode.window.activeTextEditor;
-      if (!editor || !isOurs(editor.document)) return vscode.window.showWarningMessage('Open a file of the paper first.');
-      const server = await serverOf(editor.document);
-      const document = await vscode.workspace.openTextDocument(shown.uri(server));
-      return vscode.window.showTextDocument(document, { viewColumn: vscode.ViewColumn.Beside, preserveFocus: true });
+      if (editor && isOurs(editor.document)) await choose(editor.document, opened);
     }),
     vscode.commands.registerCommand('bibtexLsp.restart', async () => {
       await deactivate();
@@ -296,11 +370,7 @@ function activate(context) {
 
 // Ends the servers.
 async function deactivate() {
-  for (const server of [...servers.values()]) {
-    await Promise.race([server.ask('shutdown', null).catch(() => {}), new Promise(resolve => setTimeout(resolve, 1000))]);
-    server.note('exit', null);
-    servers.delete(server.paper.folder);
-  }
+  for (const server of [...servers.values()]) await server.stop();
 }
 
 module.exports = { activate, deactivate };

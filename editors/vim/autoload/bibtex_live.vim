@@ -70,8 +70,8 @@ function! bibtex_live#Start(argument) abort
   call s:Pump(s:latest)
 endfunction
 
-" The .aux file of the present buffer: that of its `% !TEX root`, its own, that of its name, or the newest one that names
-" databases: in its folder, in an output folder of that, or in the folder above.
+" The .aux file of the present buffer: that of its `% !TEX root`, its own, that of its name, the newest one that names it, or
+" the newest one that names databases: in its folder, in an output folder of that, or in the folder above.
 function! s:Guess() abort
   let path = expand('%:p')
   let folder = path ==# '' ? getcwd() : fnamemodify(path, ':h')
@@ -91,16 +91,23 @@ function! s:Guess() abort
       endif
     endfor
   endif
+  let all = []
   for place in [folder, fnamemodify(folder, ':h')]
     let found = []
     for inner in [place] + s:Outputs(place)
       let found += filter(glob(inner . '/*.aux', 1, 1), 's:NamesDatabases(v:val)')
     endfor
-    if !empty(found)
-      return sort(found, {a, b -> getftime(b) - getftime(a)})[0]
-    endif
+    let all += sort(found, {a, b -> getftime(b) - getftime(a)})
   endfor
-  return ''
+  return get(filter(copy(all), 's:Names(v:val, path)'), 0, get(all, 0, ''))
+endfunction
+
+" Whether an .aux file has a file as a database, as the style, or as a part of the paper.
+function! s:Names(aux, path) abort
+  let kind = fnamemodify(a:path, ':e')
+  let command = get({'bib': 'bibdata', 'bst': 'bibstyle'}, kind, '@input')
+  let name = escape(fnamemodify(a:path, ':t:r'), '\.*$^~[]') . (command ==# '@input' ? '\.aux' : '\%(\.' . kind . '\)\=')
+  return match(readfile(a:aux), '^\\' . command . '{\%([^}]*[,/]\)\=' . name . '[,}]') >= 0
 endfunction
 
 " The folders in which LaTeX may write the files of a folder: that of its latexmkrc, and the usual ones.
@@ -178,6 +185,7 @@ function! s:Watch() abort
     endif
     autocmd FocusGained * call s:Changed()
     autocmd BufReadPost,BufUnload *.aux,*.bib,*.bst call s:Forget(str2nr(expand('<abuf>')))
+    autocmd BufReadPost *.aux,*.bib,*.bst call map(values(s:papers), 's:Mark(v:val)')
     autocmd BufEnter \[bibliography\ of\ *\] call s:Enter()
     autocmd CursorMoved,CursorMovedI,BufEnter *.aux,*.bib,*.bst,*.tex call s:Follow()
     autocmd VimLeavePre * call s:Leave()
@@ -273,6 +281,8 @@ endfunction
 
 " Ends the program without a word; what it still says is for nobody.
 function! s:Drop(paper) abort
+  let a:paper.items = []
+  call s:Mark(a:paper)
   if a:paper.job isnot v:null
     let job = a:paper.job
     let a:paper.job = v:null
@@ -772,7 +782,17 @@ function! s:Read(paper) abort
     endif
     call add(messages, message)
   endwhile
-  let a:paper.messages = messages
+  let a:paper.messages = s:Folded(messages)
+endfunction
+
+" Of the warnings about citations without an entry only the first, with the number of the others, while a database is missing.
+function! s:Folded(messages) abort
+  let lost = filter(copy(a:messages), 'v:val.text =~# "^I didn''t find a database entry for "')
+  if len(lost) < 2 || empty(filter(copy(a:messages), 'v:val.text =~# "^I couldn''t open database file "'))
+    return a:messages
+  endif
+  let lost[0].more = printf(' (nor for %d others, while a database is missing)', len(lost) - 1)
+  return filter(a:messages, 'v:val is lost[0] || v:val.text !~# "^I didn''t find a database entry for "')
 endfunction
 
 " Where a message without a line belongs: to the entry, or the \citation, of the key that it ends with.
@@ -825,17 +845,21 @@ function! s:List(paper) abort
       let place = s:Where(a:paper, message.text)
       let left -= 1
     endif
-    let item = {'text': message.text, 'type': message.type}
+    let item = {'text': message.text . get(message, 'more', ''), 'type': message.type}
     if !empty(place)
       let item.filename = get(a:paper.places, place[2], a:paper.folders[0] . '/' . place[2])
       let item.lnum = max([1, str2nr(place[1])])
     endif
     call add(items, item)
   endfor
-  if items ==# a:paper.items || !s:Option('quickfix', 1)
+  if items ==# a:paper.items
     return
   endif
   let a:paper.items = items
+  call s:Mark(a:paper)
+  if !s:Option('quickfix', 1)
+    return
+  endif
   let title = 'bibtex-live: ' . a:paper.title
   if a:paper.list > 0 && getqflist({'id': a:paper.list, 'title': 1}).title ==# title
     call setqflist([], 'r', {'id': a:paper.list, 'items': items, 'title': title})
@@ -843,6 +867,23 @@ function! s:List(paper) abort
     call setqflist([], ' ', {'items': items, 'title': title})
     let a:paper.list = getqflist({'nr': '$', 'id': 0}).id
   endif
+endfunction
+
+" Puts a sign at the line of each message, in the buffers that are loaded.
+function! s:Mark(paper) abort
+  if !exists('*sign_place') || !s:Option('signs', 1)
+    return
+  endif
+  call sign_define('BibtexLiveE', {'text': 'E>', 'texthl': 'ErrorMsg'})
+  call sign_define('BibtexLiveW', {'text': 'W>', 'texthl': 'WarningMsg'})
+  let group = 'bibtex_live_' . a:paper.buffer
+  call sign_unplace(group)
+  for item in filter(copy(a:paper.items), 'has_key(v:val, "lnum") && v:val.type !=# "I"')
+    let number = s:Buffer(s:Resolved(item.filename))
+    if number > 0
+      call sign_place(0, group, 'BibtexLive' . item.type, number, {'lnum': item.lnum, 'priority': item.type ==# 'E' ? 12 : 11})
+    endif
+  endfor
 endfunction
 
 " --- The window ---
