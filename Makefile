@@ -46,18 +46,17 @@ test:
 	@tools/kit
 	tools/gate
 	tests/sources
-	tests/run $(PROGRAM) $(PROGRAM).by-rattle
-	tests/front $(JOB_PROGRAM) $(PROGRAM)
-	tests/check $(CHECK_PROGRAM)
-	tests/mutations $(CHECK_PROGRAM) $(PROGRAM) --count 300
-	tests/lsp $(LSP_PROGRAM)
-	tests/lsp $(LSP_PROGRAM) --random 40 1
-	tests/lsp $(LSP_PROGRAM) --broken 300 1
-	tests/lsp $(LSP_PROGRAM) --hostile
-	tests/why $(WHY_PROGRAM)
-	tests/originals
-	tests/random
-	tests/memory
+	tests/together tests/memory \
+	  'tests/mutations $(CHECK_PROGRAM) $(PROGRAM) --count 300' \
+	  'tests/why $(WHY_PROGRAM)' \
+	  'tests/run $(PROGRAM) $(PROGRAM).by-rattle' \
+	  'tests/front $(JOB_PROGRAM) $(PROGRAM)' \
+	  'tests/check $(CHECK_PROGRAM)' \
+	  'tests/lsp $(LSP_PROGRAM)' \
+	  'tests/lsp $(LSP_PROGRAM) --random 40 1' \
+	  'tests/lsp $(LSP_PROGRAM) --broken 300 1' \
+	  'tests/lsp $(LSP_PROGRAM) --hostile' \
+	  tests/originals tests/random
 
 check:
 	@tools/kit
@@ -94,6 +93,7 @@ hostile: build
 compare:
 	tests/compare
 	tests/check $(CHECK_PROGRAM) installed
+	tests/bugs $(CHECK_PROGRAM) $(PROGRAM)
 	tests/mutations $(CHECK_PROGRAM) $(PROGRAM)
 	tests/mutations $(CHECK_PROGRAM) $(PROGRAM) --installed --bibtex
 	tests/effects $(LSP_PROGRAM)

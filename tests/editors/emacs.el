@@ -126,7 +126,8 @@
      (progn (find-file "labels.bst") (type 1 "FOO\r"))
      (and (equal (listed) '("labels.bst:1: error: This isn't a command"))
           (equal (flagged "labels.bst") '((1 :error "This isn't a command")))
-          (string-match-p "is empty" (car (shown)))))
+          (shows "\\newblock {\\em The {\\TeX}book again}.")
+          (with-current-buffer "*bibliography of paper*" (string-match-p "last good" (bibtex-live--tally)))))
     ("and none once it is mended"
      (type 1 "\C-k\C-k")
      (and (null (listed)) (null (flagged "labels.bst")) (shows "\\newblock {\\em The {\\TeX}book again}.")))
@@ -138,7 +139,16 @@
             (write-region "\\citation{no:one}\n" nil "my paper.aux" t 'silent)
             (bibtex-live "my paper.aux"))
      (and (with-current-buffer "*bibliography of my paper*" (string-match-p "knuth:texbook" (buffer-string)))
-          (equal (listed) '("my paper.aux:16: warning: I didn't find a database entry for \"no:one\""))))))
+          (equal (listed) '("my paper.aux:16: warning: I didn't find a database entry for \"no:one\""))))
+    ("of the citations without an entry only the first, while a database is missing"
+     (progn (write-region (concat "\\relax\n\\bibstyle{labels}\n\\bibdata{lost}\n"
+                                  (mapconcat (lambda (n) (format "\\citation{lost:%d}\n" n)) (number-sequence 0 29) ""))
+                          nil "lost.aux" nil 'silent)
+            (bibtex-live "lost.aux"))
+     (equal (listed)
+            '("lost.aux:3: error: I couldn't open database file lost.bib"
+              "lost.aux:1: error: I found no database files---while reading file lost.aux"
+              "lost.aux:4: warning: I didn't find a database entry for \"lost:0\" (nor for 29 others, while a database is missing)")))))
 
 (defun drive ()
   (cl-loop for (name action wanted) in steps

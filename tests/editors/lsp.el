@@ -62,5 +62,18 @@
 (insert "FUNCTION {not.used} { skip$ }\n")
 (let ((all (messages-at nil)))
   (check "a function that nothing uses" (seq-some (lambda (d) (string-match-p "Nothing uses `not.used`" (flymake-diagnostic-text d))) all) all))
+;; A fault of the check, and the entry that triggers it.
+(goto-char (point-min))
+(search-forward "FUNCTION {proceedings}\n{")
+(insert "\n  editor empty$ { \"none\" write$ } ")
+(let ((start (point)))
+  (insert "if$\n")
+  (let ((all (messages-at nil)))
+    (check "a fault of the style" (seq-some (lambda (d) (string-match-p "finds too little on the stack" (flymake-diagnostic-text d))) all) all))
+  (let ((actions (eglot-code-actions start)))
+    (check "an action for it" (equal (mapcar (lambda (a) (plist-get a :title)) actions) '("Insert the entry to try into library.bib")) actions)
+    (eglot--apply-workspace-edit (plist-get (car actions) :edit))))
+(with-current-buffer "library.bib"
+  (check "an entry to try" (string-match-p "}\n\n@proceedings{a\\b.*}\n\\'" (buffer-string)) (buffer-string)))
 (princ "done\n")
 (kill-emacs 0)

@@ -19,11 +19,17 @@ local function hover()
   return answer and answer.contents.value or ''
 end
 
+local progress = {}
+vim.api.nvim_create_autocmd('User', { pattern = 'LspProgressUpdate', callback = function()
+  vim.list_extend(progress, vim.tbl_filter(function(m) return m.progress end, vim.lsp.util.get_progress_messages()))
+end })
 vim.cmd('edit library.bib')
 check('the server starts', vim.wait(60000, function()
   local client = vim.lsp.get_active_clients()[1]
   return client and client.initialized
 end))
+check('progress of the first run', vim.wait(60000, function() return #progress > 1 and progress[#progress].done end)
+  and progress[1].title == 'BibTeX' and not progress[1].done, progress)
 vim.fn.search('Theory of Games')
 check('hover', hover():find('Theory of Games', 1, true), hover())
 vim.cmd('normal! ciwGreat')
@@ -88,6 +94,25 @@ vim.fn.append(vim.fn.search('FUNCTION {comma}') - 1, 'FUNCTION {not.used} { skip
 check('a function that nothing uses', vim.wait(60000, function()
   return #vim.tbl_filter(function(d) return d.message == 'Nothing uses `not.used`.' end, vim.diagnostic.get(0)) == 1
 end), vim.diagnostic.get(0))
+-- A fault of the check, and the entry that triggers it.
+vim.cmd('split library.bib')
+vim.cmd('wincmd p')
+vim.fn.append(vim.fn.search('FUNCTION {proceedings}') + 1, '  editor empty$ { "none" write$ } if$')
+local fault
+check('a fault of the style', vim.wait(60000, function()
+  fault = vim.tbl_filter(function(d) return d.code == 'empty' end, vim.diagnostic.get(0))[1]
+  return fault
+end), vim.diagnostic.get(0))
+vim.fn.cursor(fault.lnum + 1, fault.col + 1)
+local asked
+vim.ui.select = function(items, _, choose)
+  asked = vim.tbl_map(function(item) return item[2].title end, items)
+  choose(items[1])
+end
+vim.lsp.buf.code_action()
+check('an entry to try', vim.wait(60000, function()
+  return vim.api.nvim_buf_get_lines(vim.fn.bufnr('library.bib'), -2, -1, false)[1]:find('^@proceedings{a[,}]')
+end) and vim.deep_equal(asked, { 'Insert the entry to try into library.bib' }), asked)
 vim.fn.mkdir('chapters')
 vim.fn.writefile({ '% !TEX root = ../paper.tex', '\\cite{neumann:games}' }, 'chapters/one.tex')
 vim.cmd('edit chapters/one.tex')

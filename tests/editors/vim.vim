@@ -33,6 +33,11 @@ function! HasMessage(message)
   return index(Messages(), a:message) >= 0
 endfunction
 
+" The lines of a file that have a sign.
+function! Signs(file)
+  return map(sign_getplaced(a:file, {'group': '*'})[0].signs, 'v:val.lnum')
+endfunction
+
 function! Type(keys)
   call feedkeys(a:keys, 't')
 endfunction
@@ -67,13 +72,13 @@ let s:steps = [
 \   'Shows("\\newblock {\\em Theory of Zero-Sum Games and Economic Behavior für alle}.")'],
 \ ['an entry without the comma after its key has its error at the next line',
 \   'call Type(":17\<CR>$x")',
-\   'HasMessage("E:library.bib:18:I was expecting a `,'' or a `}''")'],
+\   'HasMessage("E:library.bib:18:I was expecting a `,'' or a `}''") && Signs("library.bib") ==# [18]'],
 \ ['the list leads there',
 \   'cfirst',
 \   'bufname("%") ==# "library.bib" && line(".") == 18'],
 \ ['and none once it is mended',
 \   'call Type("u")',
-\   'Messages() ==# [] && Shows("\\newblock {\\em Theory of Zero-Sum Games and Economic Behavior für alle}.")'],
+\   'Messages() ==# [] && Signs("library.bib") ==# [] && Shows("\\newblock {\\em Theory of Zero-Sum Games and Economic Behavior für alle}.")'],
 \ ['a macro that is not defined has its warning',
 \   'call Type(":13\<CR>$iw\<Esc>")',
 \   'Messages() ==# ["W:library.bib:13:string name \"aww\" is undefined"]'],
@@ -117,6 +122,12 @@ let s:steps = [
 \ ['a paper whose name the program does not take',
 \   'call writefile(readfile("paper.aux") + ["\\citation{no:one}"], "my paper.aux") | BibtexLive my paper.aux',
 \   'match(getbufline(bufnr("bibliography of my paper"), 1, "$"), "texbook") >= 0 && Messages() ==# ["W:my paper.aux:16:I didn''t find a database entry for \"no:one\""]'],
+\ ['of the citations without an entry only the first, while a database is missing',
+\   'call writefile(["\\relax", "\\bibstyle{labels}", "\\bibdata{lost}"] + map(range(30), "''\\citation{lost:'' . v:val . ''}''"), "lost.aux") | BibtexLive lost.aux',
+\   'Messages() ==# ["E:lost.aux:3:I couldn''t open database file lost.bib", "E:lost.aux:1:I found no database files---while reading file lost.aux", "W:lost.aux:4:I didn''t find a database entry for \"lost:0\" (nor for 29 others, while a database is missing)"]'],
+\ ['of two papers the one that names the database',
+\   'call map(["first", "second"], "writefile([''\\bibstyle{labels}'', ''\\bibdata{'' . v:val . ''}''], v:val . ''.aux'')") | call system("touch -d ''1 hour ago'' first.aux") | edit first.bib | BibtexLive',
+\   'bufnr("bibliography of first") > 0'],
 \ ]
 
 let s:at = 0
