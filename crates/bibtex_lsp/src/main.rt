@@ -11,6 +11,7 @@ use crate::options::{Request, parse};
 use anyhow::Result;
 use bt_lsp::Server;
 use bt_paper::{Options, SessionPaper};
+use bt_places::Paper;
 use bt_streams::{LooksAhead, ReaderSource, Sink, Source, WriterSink};
 use bt_talk::talk;
 use std::alloc::AllocError;
@@ -34,17 +35,18 @@ standard input and output.
 
 Exit status: 0 after shutdown and exit, otherwise 1.";
 
-fn answer<S: Source + LooksAhead, K: Sink>(
+/// Answers messages about a paper. It is generic, so that its proof doesn't follow a session's parts.
+fn answer<S: Source + LooksAhead, K: Sink, P: Paper + Drop>(
     rt: &HostRuntime,
     source: &mut S,
     sink: &mut K,
-    options: Options,
+    paper: P,
 ) -> Result<ExitCode>
     requires reads { (S.seen source.old).failures < 2 ^ 64 - 1 }
     requires writes { (K.seen sink.old).failures < 2 ^ 64 - 1 }
 {
     let alloc = rt.alloc();
-    let mut server = Server::new(alloc, SessionPaper::new(alloc, Disk { rt }, options));
+    let mut server = Server::new(alloc, paper);
     let talked = talk(alloc, source, sink, &mut server);
     let is_shut_down = server.is_shut_down();
     // The process ends here, so nothing needs to be freed.
@@ -79,7 +81,8 @@ fn serve(rt: &HostRuntime, options: Options) -> Result<ExitCode> {
     };
     let mut source = ReaderSource::new(reader);
     let mut sink = WriterSink::new(writer);
-    answer(rt, &mut source, &mut sink, options)
+    let paper = SessionPaper::new(alloc, Disk { rt }, options);
+    answer(rt, &mut source, &mut sink, paper)
 }
 
 /// The words of the command line; `None` if memory ran out.
