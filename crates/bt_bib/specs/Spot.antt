@@ -30,6 +30,7 @@ pub record Here : Type 0 where
 abbrev pub at : Spot → List ℕ → Here
 at s rest = record { spot = s; rest = rest }
 
+-- a place relative to another one, with the bytes from there on, as a place of the text
 abbrev pub here_from : Spot → Here → Here
 here_from first h = at (spot_from first h.spot) h.rest
 

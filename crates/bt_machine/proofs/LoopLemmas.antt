@@ -221,11 +221,11 @@ turn_leads p test body fs gs hs ks w w' k o leads same h ew looping begun =
     ∙ leads
 
 -- the beginning
-pub starts : (p : Program) (t : Target) (ops : List Op) (control : List HeldFrame) (w : World) (k : Counts) → ops ≡ [] → kept control ≡ Run (Name t) ∷ [] → k ≡ counts_begun → left p (whole ops control) w k ≡ eval p (Then (Called t) End) w counts_begun
-starts p t ops control w k none is_control is_k =
-    (λ i. left p (Run (Block (ops_body (none i))) ∷ is_control i) w (is_k i))
-    ∙ same_end (Run (Name t) ∷ []) p w counts_begun
-    ∙ then_go-done p (eval p (Then (Called t) End) w counts_begun)
+pub starts : (p : Program) (t : Target) (ops : List Op) (control : List HeldFrame) (w : World) (k : Counts) → ops ≡ [] → kept control ≡ Run (Name t) ∷ [] → left p (whole ops control) w k ≡ eval p (Then (Called t) End) w k
+starts p t ops control w k none is_control =
+    (λ i. left p (Run (Block (ops_body (none i))) ∷ is_control i) w k)
+    ∙ same_end (Run (Name t) ∷ []) p w k
+    ∙ then_go-done p (eval p (Then (Called t) End) w k)
 
 -- no function of this number: nothing is run
 pub entered_past : (p : Program) (functions : List Function) (n : ℕ) → p.functions ≡ definitions_of functions → length functions ≤ n → End ≡ function_body p.functions n

@@ -197,6 +197,24 @@ fn call_any<'a>(
     }
 }
 
+/// The same, apart because its result would be set to 0 at each call of a built-in function.
+#[inline(always)]
+fn call_runner<'a>(
+    state: &mut State<'a>,
+    control: &mut Vec<Frame<'a>>,
+    alloc: Global,
+    style: &'a Style,
+    builtin: Builtin,
+    rest: &'a [Op],
+) -> Result<Next<'a>, AllocError>
+    ensures leads { let p = program_of style.now in IfOk result (λ next. LeadsTo p state.old state.new
+        (built_in p (eval p) builtin) rest.now control.old.items next control.new.items) }
+    ensures more { OnOk result (length control.new.items ≤ length control.old.items + 4) }
+{
+    let next = call_any(state, control, alloc, style, builtin, rest)?;
+    Ok(next)
+}
+
 /// The same, fast for those that run no other.
 #[inline(always)]
 fn call_builtin<'a>(
@@ -215,8 +233,7 @@ fn call_builtin<'a>(
         let flow = call_basic(state, alloc, style, builtin)?;
         Ok(next_after(flow, rest))
     } else {
-        let next = call_any(state, control, alloc, style, builtin, rest)?;
-        Ok(next)
+        call_runner(state, control, alloc, style, builtin, rest)
     }
 }
 

@@ -8,10 +8,11 @@
 //! An element is matched where it lies in its body, and what comes after it is only a slice. So the loop holds both in
 //! registers: a copy of an element, or a result that holds a `Target`, would go through memory at each tick.
 
-ghost use Rattle.std.specs.Prelude.{◌≡◌, ◌+◌, ◌≤◌, ◌<◌, length, IfOk, IfSome, OnOk};
+ghost use Rattle.std.specs.Prelude.{◌≡◌, ◌+◌, ◌≤◌, ◌<◌, length, IfOk, IfSome, IsTrue, OnOk};
 ghost use Rattle.bt_style.specs.Program.{program_of};
 ghost use Rattle.bt_style.specs.Tree.{End, Then, Called};
 ghost use Rattle.bt_style.specs.declared.builtin.Builtin.TheVariants as builtin;
+ghost use Rattle.bt_style.specs.declared.style.Target.TheVariants as target;
 ghost use Rattle.bt_actions.specs.declared.complaint.Complaint.TheVariants.{TicksPassed};
 ghost use Rattle.bt_actions.specs.Arguments.{as_number, taken};
 ghost use Rattle.bt_actions.specs.World.{say};
@@ -25,8 +26,11 @@ use crate::control::{Due, Frame, begin, begin_loop, builtin_of, called_by, next_
 use crate::idioms::{put_block, put_name};
 use bt_actions::{Code, Complaint, Flow, Tally};
 use bt_stack::{State, take_number};
-use bt_style::{Op, Style, Target};
+use bt_style::{Builtin, Op, Style, Target};
 use std::alloc::{AllocError, Global};
+
+/// How many frames there is room for at a step's beginning. Most steps need no more; it is 1,008 bytes.
+const FIRST_FRAMES: usize = 18;
 
 /// Reports that a step has no tick left. If `work` made the complaint, it would set its bytes to 0 at each tick.
 #[cold]
@@ -81,6 +85,13 @@ fn carry_out<'a>(
     }
 }
 
+/// Whether a name is `skip$`, the most frequent of those that wait.
+fn is_skip(name: Target) -> bool
+    ensures { IsTrue result → name ≡ target.Builtin builtin.Skip }
+{
+    matches!(name, Target::Builtin(Builtin::Skip))
+}
+
 /// Calls a quoted name that waited, with its tick, and returns the body that runs next, unless the run stops.
 fn call_due<'a>(
     state: &mut State<'a>,
@@ -101,6 +112,9 @@ fn call_due<'a>(
         return Ok(None);
     }
     tally.take(builtin_of(name));
+    if is_skip(name) {
+        return Ok(Some(rest));
+    }
     let next = call_quoted(state, control, alloc, style, name, rest)?;
     match next {
         Next::Stop => Ok(None),
@@ -108,57 +122,74 @@ fn call_due<'a>(
     }
 }
 
-/// Runs a call of a name and all that it leads to. `control` is its buffer. It isn't inlined, so that it finds the state
-/// through one register and its own locals near.
-#[inline(never)]
-pub fn work<'a>(
+/// Runs a call of a name and all that it leads to.
+#[inline(always)]
+fn run_all<'a>(
     state: &mut State<'a>,
-    control: &mut Vec<Frame<'a>>,
+    tally: &mut Tally,
     alloc: Global,
     style: &'a Style,
     first: Target,
-) -> Result<(Flow, Tally), AllocError>
-    ensures { IfOk result (λ end. run_ended end.0 (world_of state.new) (counts end.1)
-        ≡ eval (program_of style.now) (Then (Called first) End) (world_of state.old) counts_begun) }
+) -> Result<Flow, AllocError>
+    ensures { IfOk result (λ flow. run_ended flow (world_of state.new) (counts tally.new)
+        ≡ eval (program_of style.now) (Then (Called first) End) (world_of state.old) (counts tally.old)) }
 {
-    control.clear();
+    let mut control = Vec::with_capacity(alloc, FIRST_FRAMES)?;
     control.push(Frame::Run(Code::Name(first)))?;
     let mut rest: &'a [Op] = &[];
-    let mut tally = Tally::new();
     'work: loop {
         match rest.split_first() {
             Some((op, after)) => {
                 if tally.ticks == 0 {
                     tell_no_tick(state)?;
-                    return Ok((Flow::Stop, tally));
+                    return Ok(Flow::Stop);
                 }
                 tally.take(called_by(op));
-                let next = carry_out(state, control, &mut tally, alloc, style, op, after)?;
+                let next = carry_out(state, &mut control, tally, alloc, style, op, after)?;
                 // The loop's measure needs this call's clause that the stack is small.
                 let _depth = state.stack.len();
                 match next {
-                    Next::Stop => return Ok((Flow::Stop, tally)),
+                    Next::Stop => return Ok(Flow::Stop),
                     Next::Body(body) => rest = body,
                 }
             }
-            None => match next_due(rest, control) {
-                Due::Nothing => return Ok((Flow::Go, tally)),
+            None => match next_due(rest, &mut control) {
+                Due::Nothing => return Ok(Flow::Go),
                 Due::Body(body) => rest = body,
                 Due::Test(test, body) => {
                     if goes_on(state)? {
-                        rest = begin_loop(control, rest, test, body)?;
-                        rest = begin(control, rest, body)?;
+                        rest = begin_loop(&mut control, rest, test, body)?;
+                        rest = begin(&mut control, rest, body)?;
                     }
                 }
                 Due::Name(name) => {
-                    let next = call_due(state, control, &mut tally, alloc, style, name, rest)?;
+                    let next = call_due(state, &mut control, tally, alloc, style, name, rest)?;
                     let _depth = state.stack.len();
                     match next {
                         Some(body) => rest = body,
-                        None => return Ok((Flow::Stop, tally)),
+                        None => return Ok(Flow::Stop),
                     }
                 }
             },
         }
     }
+}
+
+/// Runs a call of a name and all that it leads to, and writes the tally down. It isn't inlined, so that it finds the state
+/// through one register and its own tally near. A result that held the tally would be set to 0 and copied as a whole.
+#[inline(never)]
+pub fn work<'a>(
+    state: &mut State<'a>,
+    end: &mut Tally,
+    alloc: Global,
+    style: &'a Style,
+    first: Target,
+) -> Result<Flow, AllocError>
+    ensures { IfOk result (λ flow. run_ended flow (world_of state.new) (counts end.new)
+        ≡ eval (program_of style.now) (Then (Called first) End) (world_of state.old) counts_begun) }
+{
+    let mut tally = Tally::new();
+    let flow = run_all(state, &mut tally, alloc, style, first)?;
+    *end = tally;
+    Ok(flow)
 }

@@ -53,7 +53,7 @@ item_messages a macros stored origin end item =
       | Some fault ↦ fault_error origin.database end item.content item.close fault ∷ []
     ]
 
--- for each item, the result of f for it and the items before it
+-- for each item, the result of f for it and the items before it, given from the last one back
 abbrev pub for_each : {A : Type 0} → (List PlacedItem → PlacedItem → List A) → List PlacedItem → List PlacedItem → List A
 for_each f before [] = []
 for_each f before (item ∷ rest) = f before item ++ for_each f (item ∷ before) rest

@@ -1,4 +1,4 @@
-//! Whether an edit of a database is a short one: one entry in the place of another of its skeleton, or less.
+//! Whether an edit of a database is a short one: it replaces at most one entry, by one with the same skeleton.
 
 ghost use Rattle.std.specs.Prelude.{◌≡◌, ◌≤◌, length, map, IsTrue};
 ghost use Rattle.bt_bib.specs.Items.{items_of};
