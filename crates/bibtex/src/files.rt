@@ -34,7 +34,7 @@ pub fn all_shared(alloc: Global, files: &[File]) -> Result<Sequence<File>, Alloc
     Ok(again)
 }
 
-/// The files with a text in the place of that of its name, or after the others where none has it.
+/// The files with this text under this name: in the place of the name's old text, or last if the name is new.
 pub fn with_text(
     alloc: Global,
     files: &[File],

@@ -15,7 +15,7 @@ pub const FILE_BYTES: usize = 1_048_576;
 /// How many files there may be.
 pub const FILE_LIMIT: usize = 64;
 
-/// How many bytes a root name may have: with `.aux` after it it is a file's name.
+/// How many bytes a root name may have, so that it is a file's name with `.aux` after it.
 const ROOT_LIMIT: usize = 60;
 
 /// Whether a run may begin at this name followed by `.aux`.

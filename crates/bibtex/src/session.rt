@@ -131,8 +131,8 @@ impl Session {
         Ok(self.replace(state, run))
     }
 
-    /// Makes an edit and reports its work: how many steps ran, how many were reused from the run before, and what the former
-    /// cost. A refusal changes nothing. Refusals are tested in the order of their cases, out of memory last.
+    /// Makes an edit and reports its work: how many steps ran and what they cost, and how many were reused from the run
+    /// before. A refusal changes nothing. Refusals are tested in the order of their cases, out of memory last.
     pub fn edit(&mut self, edit: Edit<'_>) -> Result<Report, Refusal>
         ensures ok { IfOk result (λ _. applied (edit_of edit.entry) self.old ≡ Ok self.new) }
         ensures report { IfOk result (λ report. report ≡ reported self.old self.new) }

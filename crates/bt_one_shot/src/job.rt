@@ -53,7 +53,6 @@ struct Outputs<'a> {
     log: &'a [u8],
 }
 
-/// Writes the two files, and the log to `out`.
 fn write_out<F: Folder, O: Sink, E: Sink>(
     outputs: &Outputs<'_>,
     folder: &mut F,

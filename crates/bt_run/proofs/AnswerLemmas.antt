@@ -35,6 +35,7 @@ use Rattle.bt_run.specs.Kept.{named_text, style_text, run_work, report_after}
 use Rattle.bt_run.proofs.WorkLemmas.{work_none, work_first}
 use Rattle.bt_run.proofs.EarlierLemmas.{nothing_asked, nothing_placed, same_none}
 use Rattle.bt_run.proofs.TurnLemmas.{none_in_turn, none_left, calls_begun}
+use Rattle.bt_run.proofs.LinkLemmas.{none_linked, none_last}
 use Rattle.bt_run.specs.ReadCommand.{Job}
 use Rattle.bt_run.specs.Commands.{commands_from}
 use Rattle.bt_run.specs.Counts.{calls_at, counts_told}
@@ -63,14 +64,18 @@ begun_consistent p earlier w s calls empty h are =
       given = λ go. (let on : IsTrue false = subst (λ (b : Bool). IsTrue b) h.8 go in absurd cc);
       called = calls_begun earlier.steps.now s.reuse.next s.steps calls h.9 none are;
       found = rw h.11 (nothing_asked w.entries);
+      spread = ap length h.12 ∙ sym count;
+      linked = none_linked s.steps s.previous h.12;
+      lasts = none_last w s.steps s.lasts h.13;
+      origins = none_last w earlier.steps.now s.origins h.14;
     }
 
 -- a run's end
 pub with_calls : (p : Program) (earlier : Earlier) (w : World) (s : KeptSteps) (calls : Option (List ℕ)) → IsConsistent p earlier w s → IsConsistent p earlier w (record s { all_calls = calls })
-with_calls p earlier w s calls h = record { ran = h.ran; ticks = h.ticks; fewer = h.fewer; bounded = h.bounded; steps = h.steps; known = h.known; indexed = h.indexed; counted = h.counted; placed = h.placed; same = h.same; tagged = h.tagged; in_turn = h.in_turn; left = h.left; given = h.given; called = h.called; found = h.found }
+with_calls p earlier w s calls h = record { ran = h.ran; ticks = h.ticks; fewer = h.fewer; bounded = h.bounded; steps = h.steps; known = h.known; indexed = h.indexed; counted = h.counted; placed = h.placed; same = h.same; tagged = h.tagged; in_turn = h.in_turn; left = h.left; given = h.given; called = h.called; found = h.found; spread = h.spread; linked = h.linked; lasts = h.lasts; origins = h.origins }
 
 pub kept_with : (p : Program) (earlier : Earlier) (w : World) (s : KeptSteps) (calls : List ℕ) → IsConsistent p earlier w s → AreCalls s.steps calls → AreKept w.entries (record s { all_calls = Some calls })
-kept_with p earlier w s calls h are = record { placed = h.placed; tagged = h.tagged; in_turn = h.in_turn; called = λ c e. (let same : calls ≡ c = cc in subst (AreCalls s.steps) same are); found = h.found }
+kept_with p earlier w s calls h are = record { placed = h.placed; tagged = h.tagged; in_turn = h.in_turn; called = λ c e. (let same : calls ≡ c = cc in subst (AreCalls s.steps) same are); found = h.found; linked = h.linked }
 
 -- What was carried out
 
@@ -105,6 +110,7 @@ begun_kept entries s h = record {
   in_turn = none_in_turn s.steps h.0;
   called = rw h.10 (λ c e. absurd cc);
   found = rw h.11 (nothing_asked entries);
+  linked = none_linked s.steps s.previous h.12;
 }
 
 work_if : (p : Program) (b : Bool) (earlier steps : List Step) → work_under p (if b then earlier else []) steps ≡ (if b then work_under p earlier steps else steps)

@@ -1,5 +1,5 @@
 -- A step in the world of all entries, by its outcome on its input alone.
-use Rattle.std.specs.Prelude.{slice_index_or, slice_set, IsTrue}
+use Rattle.std.specs.Prelude.{slice_index_or, slice_set, IfSome, IsTrue}
 use Rattle.std.specs.Option.{ForSome}
 use Rattle.std.proofs.Common.{zero, suc, ◌≡◌, refl, ℕ, ◌+◌, ◌<◌, Bool, List, [], ◌∷◌, ◌++◌, length, All, Option, Some, None, sym, ap, ◌∙◌, subst, arith}
 use Rattle.std.proofs.lemmas.List.{get_or-set_same, set-set, length-set, length-append}
@@ -29,10 +29,12 @@ use Rattle.bt_run.specs.inner.Calls.{AreCallsFrom}
 use Rattle.bt_run.specs.inner.Earlier.{AreSame}
 use Rattle.bt_run.specs.inner.Tags.{step_tag}
 use Rattle.bt_run.specs.inner.Turn.{IsGiven, IsSharedFrom}
+use Rattle.bt_run.specs.inner.Links.{at_entry, with_last}
 use Rattle.bt_run.specs.inner.Work.{IsNext, IsConsistent}
 use Rattle.bt_run.proofs.WorkLemmas.{work_append, work_fewer}
 use Rattle.bt_run.proofs.EarlierLemmas.{asked_back, same_back, placed_more}
 use Rattle.bt_run.proofs.TurnLemmas.{in_turn_more, left_more, given_next, tagged_more}
+use Rattle.bt_run.proofs.LinkLemmas.{linked_more, lasts_more, origins_more}
 
 -- what a step leaves in the world of its entry alone, or of none
 abbrev alone_left : Program → Target → Option ℕ → Course → Finish
@@ -141,9 +143,24 @@ all_one P y g (suc k) d lt = absurd (omega (arith, lt))
 pub all_behind : {A : Type 0} (P : A → Type 0) (xs : List A) (y : A) → All P xs → P y → All P (xs ++ y ∷ [])
 all_behind P xs y h g = All-append P xs (y ∷ []) h (all_one P y g)
 
+-- What becomes of the links by one more step.
+pub record Links : Type 0 where
+  pub link : Option ℕ
+  pub origin : Option ℕ
+  pub previous : List (Option ℕ)
+  pub lasts : List (Option ℕ)
+  pub origins : List (Option ℕ)
+
+pub record AreMore (x : Option ℕ) (before next : KeptSteps) (shared : Bool) (l : Links) : Type 0 where
+  pub link : IfSome l.link (at_entry next.lasts x)
+  pub origin : IfSome l.origin (λ k. IsTrue shared × (k ≡ before.reuse.next))
+  pub previous : l.previous ≡ next.previous ++ l.link ∷ []
+  pub lasts : l.lasts ≡ with_last x (Some (length next.steps)) next.lasts
+  pub origins : l.origins ≡ with_last x l.origin next.origins
+
 -- a step keeps what a run keeps to
-pub consistent_behind : (p : Program) (earlier : Earlier) (site : CommandPlace) (t : Target) (x : Option ℕ) (r back : Course) (s : Step) (tag : ℕ) (shared : Bool) (before next : KeptSteps) (steps : List Step) (tags : List ℕ) (places : List (Option ℕ)) (calls : Option (List ℕ)) → IsConsistent p earlier (course_world r) before → s.input ≡ input_at t x (course_world r) → back ≡ put_back site x s.outcome r → next ≡ record before { reuse = next.reuse } → steps ≡ next.steps ++ s ∷ [] → tags ≡ next.tags ++ tag ∷ [] → places ≡ next.places ++ x ∷ [] → tag ≡ step_tag s → (IsTrue shared → IsSharedFrom earlier.steps.now s before.reuse.next next.reuse.next) → ((ss : List Step) → ForSome next.calls (AreCallsFrom earlier.steps.now before.reuse.next ss) → ForSome calls (AreCallsFrom earlier.steps.now next.reuse.next (ss ++ s ∷ []))) → IsNext p earlier.steps.now s before.reuse next.reuse → IsConsistent p earlier (course_world back) (record next { steps = steps; tags = tags; places = places; in_step = shared; calls = calls })
-consistent_behind p earlier site t x r back s tag shared before next steps tags places calls h is_input is_back is_rest are_steps are_tags are_places is_tag in_turn called is_next =
+pub consistent_behind : (p : Program) (earlier : Earlier) (site : CommandPlace) (t : Target) (x : Option ℕ) (r back : Course) (s : Step) (tag : ℕ) (shared : Bool) (before next : KeptSteps) (steps : List Step) (tags : List ℕ) (places : List (Option ℕ)) (calls : Option (List ℕ)) (links : Links) → IsConsistent p earlier (course_world r) before → IsPlace x (course_world r) → AreMore x before next shared links → s.input ≡ input_at t x (course_world r) → back ≡ put_back site x s.outcome r → next ≡ record before { reuse = next.reuse } → steps ≡ next.steps ++ s ∷ [] → tags ≡ next.tags ++ tag ∷ [] → places ≡ next.places ++ x ∷ [] → tag ≡ step_tag s → (IsTrue shared → IsSharedFrom earlier.steps.now s before.reuse.next next.reuse.next) → ((ss : List Step) → ForSome next.calls (AreCallsFrom earlier.steps.now before.reuse.next ss) → ForSome calls (AreCallsFrom earlier.steps.now next.reuse.next (ss ++ s ∷ []))) → IsNext p earlier.steps.now s before.reuse next.reuse → IsConsistent p earlier (course_world back) (record next { steps = steps; tags = tags; places = places; in_step = shared; calls = calls; previous = links.previous; lasts = links.lasts; origins = links.origins })
+consistent_behind p earlier site t x r back s tag shared before next steps tags places calls links h placed joined is_input is_back is_rest are_steps are_tags are_places is_tag in_turn called is_next =
     let cost : Step → ℕ = λ (u : Step). u.cost in
     let so_far = work_under p earlier.steps.now before.steps in
     let more = work_under p earlier.steps.now (s ∷ []) in
@@ -157,7 +174,13 @@ consistent_behind p earlier site t x r back s tag shared before next steps tags 
     let kept_asked = ap (λ (k : KeptSteps). k.asked) is_rest in
     let given : IsGiven (course_world r) s.input = record { globals = ap (λ (i : Input). i.globals) is_input; held = ap (λ (i : Input). i.held) is_input } in
     let calls_now = called before.steps (subst (λ (o : Option (List ℕ)). ForSome o (AreCallsFrom earlier.steps.now before.reuse.next before.steps)) (sym kept_calls) h.called) in
-    rw (kept_places, kept_tags, kept_steps, is_back) (record {
+    let w = course_world r in
+    let v = course_world (put_back site x s.outcome r) in
+    let kept_previous : links.previous ≡ before.previous ++ links.link ∷ [] = joined.previous ∙ ap (λ (k : KeptSteps). k.previous ++ links.link ∷ []) is_rest in
+    let kept_lasts : links.lasts ≡ with_last x (Some (length before.steps)) before.lasts = joined.lasts ∙ ap (λ (k : KeptSteps). with_last x (Some (length k.steps)) k.lasts) is_rest in
+    let kept_origins : links.origins ≡ with_last x links.origin before.origins = joined.origins ∙ ap (λ (k : KeptSteps). with_last x links.origin k.origins) is_rest in
+    let known = subst (λ (k : KeptSteps). IfSome links.link (at_entry k.lasts x)) is_rest joined.link in
+    rw (kept_places, kept_tags, kept_steps, kept_previous, kept_lasts, kept_origins, is_back) (record {
       ran = is_next.counted.ran ∙ ap (λ n. n + length more) h.ran ∙ sym (ap length works ∙ length-append so_far more);
       ticks = is_next.counted.ticks ∙ ap (λ n. n + total_cost more) h.ticks ∙ sym (ap total_cost works ∙ sum_by-append cost so_far more);
       fewer = omega (arith, length-append before.steps (s ∷ []), h.fewer, is_next.counted.ran, work_fewer p earlier.steps.now (s ∷ []));
@@ -174,4 +197,8 @@ consistent_behind p earlier site t x r back s tag shared before next steps tags 
       given = λ go. given_next earlier.steps.now (course_world (put_back site x s.outcome r)) s before.reuse.next next.reuse.next earlier.in_turn (in_turn go) (record { globals = refl; held = refl });
       called = calls_now;
       found = subst (λ (o : Option Asking). AreAsked o (variables_back x s.outcome.variables r.entries)) (sym kept_asked) (asked_back before.asked r.entries x s.outcome.variables h.found);
+      spread = omega (arith, length-append before.steps (s ∷ []), length-append before.previous (links.link ∷ []), h.spread);
+      linked = linked_more w before.steps before.previous before.lasts s t x links.link h.spread h.linked h.lasts is_input known;
+      lasts = lasts_more w v before.steps s t x before.lasts is_input placed refl refl h.lasts;
+      origins = origins_more w v earlier.steps.now s t x before.origins links.origin shared before.reuse.next next.reuse.next is_input placed refl refl joined.origin in_turn h.origins;
     })

@@ -11,6 +11,7 @@ pub mod ReachedLemmas
 pub mod WorkLemmas
 pub mod EarlierLemmas
 pub mod TurnLemmas
+pub mod LinkLemmas
 pub mod EditLemmas
 pub mod FindingLemmas
 pub mod AlikeLemmas

@@ -11,13 +11,14 @@ abbrev pub next_names : Program → Option ℕ → Option Target → List Target
 next_names p type_function None = []
 next_names p type_function (Some t) = leads_to p type_function t
 
--- names that were found, with those that the ones from a place on lead to, so many of them in turn
+-- Goes through the names that were found, from a place on, for so many rounds. Each round adds what one name leads to.
 abbrev pub found_from : Program → Option ℕ → ℕ → ℕ → List Target → List Target
 found_from p type_function zero place found = found
 found_from p type_function (suc rounds) place found =
     found_from p type_function rounds (place + 1) (noted_all found (next_names p type_function (slice_get found place)))
 
--- the names that are reached from one: no more can be reached than there are rounds, so each has its round
+-- The names that are reached from one. There are as many rounds as names that can be reached, and one more, so each name
+-- has its round.
 unfoldable pub reach_of : Program → Option ℕ → Target → List Target
 reach_of p type_function start =
     found_from p type_function (length (reachable p type_function start) + 1) 0 (start ∷ [])

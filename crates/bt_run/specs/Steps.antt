@@ -16,8 +16,8 @@ abbrev pub styled_work : Result Program StyleFault → List Step → List Step �
 styled_work (Ok p) earlier steps = work_under p earlier steps
 styled_work (Err fault) earlier steps = steps
 
--- The work of steps whose style has this text after steps whose style had that one: all of them, where the texts differ
--- or one has none.
+-- The work of steps after earlier ones, given the texts of the two styles: all of them, if the texts differ or one run has
+-- no style.
 abbrev pub work_after : Option (List ℕ) → List Step → Option (List ℕ) → List Step → List Step
 work_after own earlier None steps = steps
 work_after None earlier (Some text) steps = steps

@@ -8,11 +8,11 @@ use Rattle.bt_run.specs.declared.course.Step.{Step}
 use Rattle.bt_run.specs.Course.{step_kept}
 use Rattle.bt_run.specs.Reached.{names_in}
 
--- what a step that has its entry alone left, and its cost
+-- the outcome and cost of a step in a world that has only its entry
 abbrev pub own_left : Finish → Own
 own_left f = record { outcome = outcome_of f; cost = f.cost }
 
--- a step is what its command keeps of its input, and of what that gives under a style
+-- a step has the key of its input, and the outcome and cost that the style gives for it
 pub record IsStep (p : Program) (s : Step) : Type 0 where
   pub is : s ≡ step_kept s.command s.input (own_left (step_in p s.input))
 

@@ -5,6 +5,7 @@ pub mod Earlier
 pub mod Calls
 pub mod Tags
 pub mod Turn
+pub mod Links
 pub mod Edits
 pub mod Asked
 pub mod Alike

@@ -315,6 +315,7 @@ impl Ran {
             steps,
             places,
             tags,
+            previous,
             all_calls: calls,
             asked,
             readings,
@@ -327,6 +328,7 @@ impl Ran {
             entries,
             order,
             tags,
+            previous,
             calls,
             asked,
             written: answers.bbl.len(),
@@ -358,6 +360,11 @@ pub fn answers_after(
     ensures steps { IfOk result (λ run. run.kept.steps ≡ trace files.now root.now min) }
 {
     let mut steps = KeptSteps::begun(alloc, readings);
-    let ran = run_from(alloc, files, root, min, kept, &mut steps)?;
-    Ok(ran.with_steps(steps))
+    match run_from(alloc, files, root, min, kept, &mut steps) {
+        Ok(ran) => Ok(ran.with_steps(steps)),
+        Err(error) => {
+            drop(steps);
+            Err(error)
+        }
+    }
 }

@@ -15,17 +15,25 @@ fn write_line(text: &mut Bytes, line: &[u8]) -> Result<(), AllocError>
     text.append(b"\n")
 }
 
+fn push_line(text: &mut Vec<u8>, line: &[u8]) -> Result<(), AllocError>
+    ensures { OnOk result (text.new.items ≡ text.old.items ++ line.now ++ 10 ∷ []) }
+{
+    text.extend_from_slice(line)?;
+    text.push(b'\n')?;
+    Ok(())
+}
+
 /// Puts lines after a text, each with a line feed.
-pub fn write_lines(text: &mut Bytes, lines: &[Shared<Bytes>]) -> Result<(), AllocError>
-    ensures { OnOk result (text.new ≡ text.old ++ lines_bytes lines.now) }
+fn push_lines(text: &mut Vec<u8>, lines: &[Shared<Bytes>]) -> Result<(), AllocError>
+    ensures { OnOk result (text.new.items ≡ text.old.items ++ lines_bytes lines.now) }
 {
     'lines: for line in lines {
-        write_line(text, line.as_slice())?;
+        push_line(text, line.as_slice())?;
     }
     Ok(())
 }
 
-/// The same of lines with one owner each.
+/// Puts lines with one owner each after a text, each with a line feed.
 pub fn write_own_lines(text: &mut Bytes, lines: &[Bytes]) -> Result<(), AllocError>
     ensures { OnOk result (text.new ≡ text.old ++ lines_bytes lines.now) }
 {
@@ -39,10 +47,9 @@ pub fn write_own_lines(text: &mut Bytes, lines: &[Bytes]) -> Result<(), AllocErr
 pub fn bbl_of(alloc: Global, steps: &[Shared<Step>], before: usize) -> Result<Bytes, AllocError>
     ensures { IfOk result (λ bbl. bbl ≡ bbl_of steps.now) }
 {
-    let mut bbl = Bytes::new(alloc);
-    bbl.reserve(before)?;
+    let mut bbl = Vec::with_capacity(alloc, before)?;
     'steps: for step in steps {
-        write_lines(&mut bbl, step.outcome.lines.as_slice())?;
+        push_lines(&mut bbl, step.outcome.lines.as_slice())?;
     }
-    Ok(bbl)
+    Ok(Bytes::from_vec(bbl))
 }

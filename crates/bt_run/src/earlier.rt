@@ -1,4 +1,4 @@
-//! What a run goes over of an earlier one.
+//! The earlier run whose steps and entries a run compares with its own.
 
 ghost use Rattle.std.specs.Prelude.{◌≡◌, ℕ, IsTrue, None, [], length, map, option_copied, IfOk, IfSome};
 ghost use Rattle.bt_run.specs.inner.Course.{IsArranged};
@@ -6,6 +6,7 @@ ghost use Rattle.bt_run.specs.inner.Earlier.{ArePlaced, AreSame, fixed, fixed_at
 ghost use Rattle.std.specs.Option.{ForSome};
 ghost use Rattle.bt_run.specs.inner.Tags.{step_tag};
 ghost use Rattle.bt_run.specs.inner.Turn.{AreInTurn};
+ghost use Rattle.bt_run.specs.inner.Links.{AreLinked};
 ghost use Rattle.bt_run.specs.inner.Calls.{AreCalls};
 ghost use Rattle.bt_run.specs.inner.Alike.{AreAsked, Stays};
 
@@ -28,6 +29,8 @@ pub struct Earlier<'a> {
     pub order: &'a [usize],
     /// The tag of each step.
     pub tags: &'a [u64],
+    /// The step before each for the same entry, if there is one.
+    pub previous: &'a [Option<usize>],
     /// How often the steps called each built-in function, if known.
     pub calls: Option<&'a Calls>,
     /// What READ asked of the databases to find these entries, if known.
@@ -38,11 +41,12 @@ pub struct Earlier<'a> {
     ghost called: { ForSome (option_copied calls) (AreCalls steps.now) },
     ghost in_turn: { AreInTurn steps.now },
     ghost found: { AreAsked (option_copied asked) entries.now },
+    ghost linked: { AreLinked steps.now previous.now },
 }
 
 impl<'a> Earlier<'a> {
     /// No run before this one.
-    #[tactic(auto, using(crate::proofs::OrderLemmas::arranged_none, crate::proofs::TurnLemmas::none_in_turn))]
+    #[tactic(auto, using(crate::proofs::OrderLemmas::arranged_none, crate::proofs::TurnLemmas::none_in_turn, crate::proofs::LinkLemmas::none_linked))]
     pub fn none() -> Earlier<'a>
         ensures { result.steps.now ≡ [] }
     {
@@ -52,6 +56,7 @@ impl<'a> Earlier<'a> {
             entries: &[],
             order: &[],
             tags: &[],
+            previous: &[],
             calls: None,
             asked: None,
         }
@@ -68,18 +73,15 @@ impl<'a> Earlier<'a> {
     }
 }
 
-/// No place for each step.
-pub fn no_places(
-    alloc: Global,
-    steps: &[Shared<Step>],
-) -> Result<Sequence<Option<usize>>, AllocError>
-    ensures { IfOk result (λ places. places ≡ map (λ step. None) steps.now) }
+/// No number for each of some values.
+pub fn no_numbers<T>(alloc: Global, values: &[T]) -> Result<Sequence<Option<usize>>, AllocError>
+    ensures { IfOk result (λ numbers. numbers ≡ map (λ value. None) values.now) }
 {
-    let mut places = Sequence::new(alloc);
-    'steps: for _step in steps {
-        places.push(None)?;
+    let mut numbers = Sequence::new(alloc);
+    'values: for _value in values {
+        numbers.push(None)?;
     }
-    Ok(places)
+    Ok(numbers)
 }
 
 /// Whether the entries at a place are the same, but for their variables. If it is known, they aren't compared.

@@ -62,8 +62,9 @@ fn find_anew(
     requires star { IfSome asking.cites.star (λ before. before ≤ length asking.cites.keys) }
     ensures { OnOk result (IsKept kept.new (question_of asking)) }
 {
-    *kept = None;
-    *kept = Some(KeptResolution::anew(alloc, asking, databases)?);
+    drop(kept.take());
+    let found = KeptResolution::anew(alloc, asking, databases)?;
+    drop(kept.replace(found));
     Ok(())
 }
 

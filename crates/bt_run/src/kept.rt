@@ -8,6 +8,7 @@ ghost use Rattle.bt_run.specs.inner.Steps.{steps_under};
 ghost use Rattle.std.specs.Option.{ForSome};
 ghost use Rattle.bt_run.specs.inner.Tags.{step_tag};
 ghost use Rattle.bt_run.specs.inner.Turn.{AreInTurn};
+ghost use Rattle.bt_run.specs.inner.Links.{AreLinked};
 ghost use Rattle.bt_run.specs.inner.Calls.{AreCalls};
 ghost use Rattle.bt_run.specs.inner.Alike.{AreAsked};
 
@@ -31,6 +32,8 @@ pub struct Kept {
     pub order: Sequence<usize>,
     /// The tag of each step.
     pub tags: Sequence<u64>,
+    /// The step before each for the same entry, if there is one.
+    pub previous: Sequence<Option<usize>>,
     /// How often the steps called each built-in function, if known.
     pub calls: Option<Calls>,
     /// What READ asked of the databases to find these entries, if known.
@@ -44,11 +47,12 @@ pub struct Kept {
     ghost called: { ForSome calls (AreCalls steps) },
     ghost in_turn: { AreInTurn steps },
     ghost found: { AreAsked asked entries },
+    ghost linked: { AreLinked steps previous },
 }
 
 impl Kept {
     /// Nothing. It takes no memory.
-    #[tactic(auto, using(crate::proofs::OrderLemmas::arranged_none, crate::proofs::TurnLemmas::none_in_turn))]
+    #[tactic(auto, using(crate::proofs::OrderLemmas::arranged_none, crate::proofs::TurnLemmas::none_in_turn, crate::proofs::LinkLemmas::none_linked))]
     pub fn nothing(alloc: Global) -> Kept
         ensures text { result.text ≡ None }
         ensures steps { result.steps ≡ [] }
@@ -60,6 +64,7 @@ impl Kept {
             entries: Sequence::new(alloc),
             order: Sequence::new(alloc),
             tags: Sequence::new(alloc),
+            previous: Sequence::new(alloc),
             calls: None,
             asked: None,
             written: 0,
@@ -80,6 +85,7 @@ pub fn earlier_under<'a>(kept: &'a Kept, text: &[u8]) -> Earlier<'a>
             entries: kept.entries.as_slice(),
             order: kept.order.as_slice(),
             tags: kept.tags.as_slice(),
+            previous: kept.previous.as_slice(),
             calls: kept.calls.as_ref(),
             asked: kept.asked.as_ref(),
         };

@@ -7,20 +7,22 @@ ghost use Rattle.bt_run.specs.Course.{course_world, input_at};
 ghost use Rattle.bt_run.specs.inner.Earlier.{AreSame, IsMarked};
 ghost use Rattle.bt_run.specs.inner.Tags.{step_tag};
 ghost use Rattle.bt_run.specs.inner.Turn.{IsGivenAt, IsSharedFrom};
+ghost use Rattle.bt_run.specs.inner.Links.{AreLast};
 ghost use Rattle.bt_run.specs.inner.Work.{IsBegun, IsConsistent, IsNext};
 
 use crate::asking::Asking;
 use crate::counts::Calls;
 use crate::course::{Course, Step};
-use crate::earlier::{no_places, same_entries};
+use crate::earlier::{no_numbers, same_entries};
 use crate::job::Job;
 use crate::known_calls::{Turn, count_step};
+use crate::links::{is_linked, last_for, note_last, number_at};
 use crate::read_command::read;
 use crate::readings::Readings;
 use crate::recorder::Recorder;
 use crate::reuse::Reuse;
 use crate::reused_step::{Done, take_over_or_carry_out};
-use crate::same_input::is_input;
+use crate::same_input::{Known, is_input};
 use crate::step::{cut_out, put_back};
 use crate::step_command::StepCommand;
 use crate::tag::tag_of;
@@ -53,6 +55,12 @@ pub struct KeptSteps {
     pub places: Sequence<Option<usize>>,
     /// The tag of each step.
     pub tags: Sequence<u64>,
+    /// The step before each for the same entry, if there is one.
+    pub previous: Sequence<Option<usize>>,
+    /// The last of these steps for each entry, if there is one.
+    pub lasts: Sequence<Option<usize>>,
+    /// The earlier run's step that left each entry as it is, if there is one.
+    pub origins: Sequence<Option<usize>>,
     /// Whether the earlier run's entry at a place is the one there, but for its variables.
     pub same: Sequence<bool>,
     /// Whether the previous run's step at the cursor is known to have been given the globals and the held line that the
@@ -70,15 +78,6 @@ pub struct KeptSteps {
     pub readings: Readings,
 }
 
-fn place_of(places: &[Option<usize>], step: usize) -> Option<usize>
-    ensures { IfSome result (λ n. slice_get places.now step ≡ Some (Some n)) }
-{
-    match places.get(step) {
-        None => None,
-        Some(place) => *place,
-    }
-}
-
 fn is_marked(marks: &[bool], place: usize) -> bool
     ensures { IsTrue result → slice_get marks.now place ≡ Some true }
 {
@@ -92,10 +91,17 @@ fn is_marked(marks: &[bool], place: usize) -> bool
 fn is_same_entry(places: &[Option<usize>], step: usize, place: Option<usize>, same: &[bool]) -> bool
     ensures { IsTrue result → IsMarked places.now same.now step place }
 {
-    match (place, place_of(places, step)) {
+    match (place, number_at(places, step)) {
         (Some(place), Some(own)) => own == place && is_marked(same, place),
         _ => false,
     }
+}
+
+/// The earlier step that a step is, if it is one.
+fn origin_of(turn: Turn) -> Option<usize>
+    ensures { IfSome result (λ k. IsTrue turn.shared × (k ≡ turn.from)) }
+{
+    if turn.shared { Some(turn.from) } else { None }
 }
 
 impl KeptSteps {
@@ -107,6 +113,9 @@ impl KeptSteps {
             steps: Sequence::new(alloc),
             places: Sequence::new(alloc),
             tags: Sequence::new(alloc),
+            previous: Sequence::new(alloc),
+            lasts: Sequence::new(alloc),
+            origins: Sequence::new(alloc),
             same: Sequence::new(alloc),
             in_step: false,
             calls: None,
@@ -115,6 +124,17 @@ impl KeptSteps {
             reuse: Reuse::begun(alloc),
             readings,
         }
+    }
+
+    /// Makes room for as many steps as the earlier run has.
+    fn make_room(&mut self, count: usize) -> Result<(), AllocError>
+        ensures { OnOk result (self.new ≡ self.old) }
+    {
+        self.steps.reserve(count)?;
+        self.tags.reserve(count)?;
+        self.places.reserve(count)?;
+        self.previous.reserve(count)?;
+        Ok(())
     }
 
     /// The earlier step to try next, if it is one of this command and was given what a step for the entry at this
@@ -130,6 +150,7 @@ impl KeptSteps {
         requires same { AreSame command.job.earlier.entries.now course.now.entries self.now.same }
         requires given { IsTrue self.now.in_step →
             IsGivenAt command.job.earlier.steps.now self.now.reuse.next (course_world course.now) }
+        requires origins { AreLast (course_world course.now) command.job.earlier.steps.now self.now.origins }
         ensures at { IfSome result (λ again.
             slice_get command.entry.job.earlier.steps.now self.now.reuse.next ≡ Some again.step.now) }
         ensures tag { IfSome result (λ again.
@@ -141,9 +162,13 @@ impl KeptSteps {
         let next = self.reuse.next;
         let step = earlier.steps.get(next)?;
         let tag = *earlier.tags.get(next)?;
-        let same = is_same_entry(earlier.places, next, place, self.same.as_slice());
+        let known = Known {
+            same: is_same_entry(earlier.places, next, place, self.same.as_slice()),
+            given: self.in_step,
+            linked: is_linked(earlier.previous, next, self.origins.as_slice(), place),
+        };
         if step.command == command.site.command
-            && is_input(&step.input, course, target, place, same, self.in_step)
+            && is_input(&step.input, course, target, place, known)
         {
             return Some(Again { step, tag });
         }
@@ -247,11 +272,16 @@ impl Recorder for KeptSteps {
     ) -> Result<(), AllocError> {
         let alike = read(alloc, job, number, course, &mut self.readings)?;
         let asked = Asking::at(alloc, job, number)?;
-        let places = no_places(alloc, self.steps.as_slice())?;
+        let places = no_numbers(alloc, self.steps.as_slice())?;
+        let lasts = no_numbers(alloc, course.entries.as_slice())?;
+        let origins = no_numbers(alloc, course.entries.as_slice())?;
         let same = same_entries(alloc, job.earlier.entries, course.entries.as_slice(), alike)?;
         self.places = places;
+        self.lasts = lasts;
+        self.origins = origins;
         self.same = same;
         self.asked = Some(asked);
+        self.make_room(job.earlier.steps.len())?;
         Ok(())
     }
 
@@ -272,7 +302,12 @@ impl Recorder for KeptSteps {
         let turn = Turn { from, next, shared };
         count_step(&mut self.calls, command.job.earlier.steps, turn, &step)?;
         self.in_step = shared;
+        let previous = last_for(self.lasts.as_slice(), place);
+        let own = self.steps.len();
+        note_last(&mut self.lasts, place, Some(own));
+        note_last(&mut self.origins, place, origin_of(turn));
         self.steps.push(step)?;
+        self.previous.push(previous)?;
         self.tags.push(tag)?;
         self.places.push(place)?;
         Ok(())

@@ -20,6 +20,7 @@ mod kept;
 mod kept_resolution;
 mod kept_steps;
 mod known_calls;
+mod links;
 mod once;
 mod read_command;
 mod readings;

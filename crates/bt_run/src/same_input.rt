@@ -66,25 +66,50 @@ fn is_given(input: &Input, course: &Course, known: bool) -> bool
             && equal_bytes(input.held.bytes(), course.held.bytes()))
 }
 
-/// Whether an input is what a step is given now, for the entry at a place or for none. The entry may be known to be the
-/// same but for its variables, and the input may be known to have the run's globals and held line.
+/// What is known of an input, so that nobody needs to compare it.
+#[derive(Clone, Copy)]
+pub struct Known {
+    /// Its entry is the one at the place, but for the variables.
+    pub same: bool,
+    /// It has the run's globals and held line.
+    pub given: bool,
+    /// Its entry is the one at the place, and its preamble the run's.
+    pub linked: bool,
+}
+
+/// Whether an input has the entry at a place, or none, and the run's preamble.
+fn is_entered(input: &Input, course: &Course, place: Option<usize>, known: Known) -> bool
+    requires placed { IsPlace place (course_world course.now) }
+    requires same { IsTrue known.same →
+        option_map fixed input.now.entry ≡ option_map fixed (entry_in course.now.entries place) }
+    requires entry { IsTrue known.linked → input.now.entry ≡ entry_in course.now.entries place }
+    requires preamble { IsTrue known.linked → input.now.preamble ≡ course.now.preamble }
+    ensures entry { IsTrue result → input.now.entry ≡ entry_in course.now.entries place }
+    ensures preamble { IsTrue result → input.now.preamble ≡ course.now.preamble }
+{
+    known.linked
+        || (is_entry_at(&input.entry, course.entries.as_slice(), place, known.same)
+            && equal_preambles(input.preamble.as_slice(), course.preamble.as_slice()))
+}
+
+/// Whether an input is what a step is given now, for the entry at a place or for none.
 #[tactic(auto, using(crate::proofs::TurnLemmas::input_given, bt_style::proofs::ReachLemmas::target_eq_sound))]
 pub fn is_input(
     input: &Input,
     course: &Course,
     target: Target,
     place: Option<usize>,
-    same: bool,
-    given: bool,
+    known: Known,
 ) -> bool
     requires placed { IsPlace place (course_world course.now) }
-    requires same { IsTrue same →
+    requires same { IsTrue known.same →
         option_map fixed input.now.entry ≡ option_map fixed (entry_in course.now.entries place) }
-    requires given { IsTrue given → IsGiven (course_world course.now) input.now }
+    requires given { IsTrue known.given → IsGiven (course_world course.now) input.now }
+    requires entry { IsTrue known.linked → input.now.entry ≡ entry_in course.now.entries place }
+    requires preamble { IsTrue known.linked → input.now.preamble ≡ course.now.preamble }
     ensures { IsTrue result → input.now ≡ input_at target place (course_world course.now) }
 {
     input.target == target
-        && is_entry_at(&input.entry, course.entries.as_slice(), place, same)
-        && is_given(input, course, given)
-        && equal_preambles(input.preamble.as_slice(), course.preamble.as_slice())
+        && is_entered(input, course, place, known)
+        && is_given(input, course, known.given)
 }

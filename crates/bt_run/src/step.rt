@@ -1,10 +1,11 @@
 //! A step of a run: its input is cut out of the run, and its outcome put back.
 
-ghost use Rattle.std.specs.Prelude.{◌≡◌, ◌<◌, Some, length, IfOk, OnOk};
+ghost use Rattle.std.specs.Prelude.{◌≡◌, ◌<◌, ◌++◌, ℕ, List, Some, length, IfOk, OnOk};
 ghost use Rattle.std.specs.Option.{option_map, ForSome};
 ghost use Rattle.bt_actions.specs.declared.entry.Entry.{Entry as EntrySeen};
 ghost use Rattle.bt_actions.specs.World.{entry_in};
 ghost use Rattle.bt_machine.specs.OwnEntry.{IsPlace};
+ghost use Rattle.bt_machine.specs.Step.{outcome_with};
 ghost use Rattle.bt_log.specs.declared.message.Place.TheVariants as places;
 ghost use Rattle.bt_log.specs.Message.{at};
 ghost use Rattle.bt_run.specs.Course.{course_world, input_at};
@@ -15,7 +16,7 @@ use crate::course::{CommandPlace, Course};
 use crate::step_command::StepCommand;
 use bt_actions::{Entry, Variables};
 use bt_log::{Message, Place};
-use bt_machine::{Input, Outcome};
+use bt_machine::{Input, Outcome, StepEnd};
 use bt_style::Target;
 use bt_text::{Bytes, Held, Sequence, Shared};
 use std::alloc::{AllocError, Global};
@@ -68,7 +69,7 @@ pub fn move_out(
     let preamble = course.preamble.share()?;
     let globals = mem::replace(&mut course.globals, others.share()?);
     let others = Some(others.share()?);
-    put_variables_back(alloc, &mut course.entries, place, &others)?;
+    put_variables_back(alloc, &mut course.entries, place, others);
     Ok(Input {
         target,
         entry,
@@ -88,19 +89,18 @@ fn told(message: &Message, site: &CommandPlace) -> Result<Message, AllocError>
     message.at(place)
 }
 
-/// A step's messages as the log has them.
-fn all_told(
-    alloc: Global,
+/// Puts a step's messages into the log.
+fn log_messages(
+    log: &mut Sequence<Message>,
     messages: &[Message],
     site: &CommandPlace,
-) -> Result<Sequence<Message>, AllocError>
-    ensures { IfOk result (λ ms. ms ≡ all_told site.now.line site.now.style messages.now) }
+) -> Result<(), AllocError>
+    ensures { OnOk result (log.new ≡ log.old ++ all_told site.now.line site.now.style messages.now) }
 {
-    let mut log = Sequence::new(alloc);
-    for message in messages {
+    'messages: for message in messages {
         log.push(told(message, site)?)?;
     }
-    Ok(log)
+    Ok(())
 }
 
 fn set_variables(
@@ -121,17 +121,25 @@ fn put_variables_back(
     alloc: Global,
     entries: &mut Sequence<Entry>,
     place: Option<usize>,
-    variables: &Option<Shared<Variables>>,
-) -> Result<(), AllocError>
+    variables: Option<Shared<Variables>>,
+)
     requires { ForSome place (λ n. n < length entries.old) }
-    ensures { OnOk result (entries.new ≡ variables_back place variables.now entries.old) }
+    ensures { entries.new ≡ variables_back place variables entries.old }
 {
     if let Some(place) = place
         && let Some(variables) = variables
     {
-        set_variables(alloc, entries, place, variables.share()?);
+        set_variables(alloc, entries, place, variables);
     }
-    Ok(())
+}
+
+fn shared(variables: &Option<Shared<Variables>>) -> Result<Option<Shared<Variables>>, AllocError>
+    ensures { IfOk result (λ same. same ≡ variables.now) }
+{
+    match variables {
+        None => Ok(None),
+        Some(variables) => Ok(Some(variables.share()?)),
+    }
 }
 
 /// Puts a held line in the place of another. An equal one stays, so that none is copied.
@@ -155,12 +163,39 @@ pub fn put_back(
     ensures { OnOk result (course.new ≡ put_back command.entry.site.now place outcome.now course.old) }
 {
     let StepCommand { alloc, site, .. } = command;
-    put_variables_back(alloc, &mut course.entries, place, &outcome.variables)?;
+    let variables = shared(&outcome.variables)?;
+    put_variables_back(alloc, &mut course.entries, place, variables);
     course.globals = outcome.globals.share()?;
     put_held(alloc, &mut course.held, &outcome.held)?;
-    let messages = all_told(alloc, outcome.messages.as_slice(), site)?;
-    course.log.append(messages)?;
+    log_messages(&mut course.log, outcome.messages.as_slice(), site)?;
     course.stopped = outcome.stop;
+    Ok(())
+}
+
+/// The same for what nobody else needs.
+pub fn move_back(
+    command: StepCommand<'_>,
+    course: &mut Course,
+    place: Option<usize>,
+    end: StepEnd,
+) -> Result<(), AllocError>
+    requires { IsPlace place (course_world course.old) }
+    ensures { (lines : List (List ℕ)) (calls : List ℕ) → OnOk result (course.new
+        ≡ put_back command.entry.site.now place (outcome_with end lines calls) course.old) }
+{
+    let StepCommand { alloc, site, .. } = command;
+    let StepEnd {
+        globals,
+        variables,
+        held,
+        messages,
+        stop,
+    } = end;
+    put_variables_back(alloc, &mut course.entries, place, variables);
+    course.globals = globals;
+    put_held(alloc, &mut course.held, &held)?;
+    log_messages(&mut course.log, messages.as_slice(), site)?;
+    course.stopped = stop;
     Ok(())
 }
 

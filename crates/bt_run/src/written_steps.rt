@@ -8,9 +8,9 @@ use crate::course::Course;
 use crate::job::Job;
 use crate::read_command::read_once;
 use crate::recorder::Recorder;
-use crate::step::{move_out, put_back};
+use crate::step::{move_back, move_out};
 use crate::step_command::StepCommand;
-use bt_actions::Variables;
+use bt_actions::{Tally, Variables};
 use bt_machine::{Meter, SoundPatterns, activate_once, sound_patterns, step_depends_on_its_input};
 use bt_style::{BUILTIN_COUNT, Style, Target};
 use bt_text::{Bytes, Shared, Values};
@@ -82,10 +82,18 @@ impl Recorder for WrittenSteps {
         let StepCommand { alloc, job, .. } = command;
         let input = move_out(alloc, course, target, place, &self.others)?;
         let mut meter = Meter::new();
-        let (outcome, lines) = activate_once(alloc, job.style, &self.patterns, input, &mut meter)?;
-        put_back(command, course, place, &outcome)?;
+        let mut tally = Tally::new();
+        let (end, lines) = activate_once(
+            alloc,
+            job.style,
+            &self.patterns,
+            input,
+            &mut tally,
+            &mut meter,
+        )?;
+        move_back(command, course, place, end)?;
         write_own_lines(&mut self.bbl, lines.as_slice())?;
-        add_calls(&mut self.calls, &outcome.calls)?;
+        add_calls(&mut self.calls, &tally.calls)?;
         Ok(())
     }
 }

@@ -1,35 +1,13 @@
 -- From an edit that was carried out or refused to its answer.
-use Rattle.std.proofs.Common.{◌≡◌, ℕ, List, length, refl, ap, sym, ◌∙◌, subst, Option, None, Some, Bool, true, false, Result, Ok, Err, unwrap_or}
+use Rattle.std.proofs.Common.{◌≡◌, ℕ, List, refl, ap, ◌∙◌, subst, Option, Bool, true, false, Result, Ok, Err}
 use Rattle.bt_run.specs.declared.answers.Report.{Report}
 use Rattle.bibtex.specs.declared.edit.Refusal.{Refusal}
 use Rattle.bibtex.specs.declared.edit.Refusal.TheVariants.{OutOfMemory}
 use Rattle.bibtex.specs.declared.state.State.{State}
-use Rattle.bibtex.specs.Edit.{Edit, write, splice, remove, root_name, min_crossrefs, bytes_of, with_bytes}
-use Rattle.bibtex.specs.Applied.{applied, refusal_of, changed, IsAnswer, state_or, unless_out_of_memory}
-use Rattle.bibtex.specs.inner.Cases.{unless_refused}
+use Rattle.bibtex.specs.Edit.{Edit, with_bytes}
+use Rattle.bibtex.specs.Applied.{applied, IsAnswer, state_or, unless_out_of_memory}
 use Rattle.bt_serve.specs.Commands.{edit, edit_answer, accepted, refused}
 use Rattle.bt_serve.specs.inner.Serves.{Takes, Does, taken_text}
-
--- What answers an edit whose bytes found no room.
-dropped_at : (refusal : Option Refusal) (s : State) → IsAnswer {A = Report} (unless_refused refusal s) (Err (unwrap_or refusal OutOfMemory))
-dropped_at None s = refl
-dropped_at (Some r) s = refl
-
--- The bytes that an edit brings decide on its refusal by their number alone.
-by_number : (e : Edit) (bytes : List ℕ) (s : State) → refusal_of (with_bytes bytes e) (length (bytes_of (with_bytes bytes e))) s ≡ refusal_of e (length bytes) s
-by_number (write name old) bytes s = refl
-by_number (splice name start end old) bytes s = refl
-by_number (remove name) bytes s = refl
-by_number (root_name name) bytes s = refl
-by_number (min_crossrefs n) bytes s = refl
-
-pub dropped : (e : Edit) (bytes : List ℕ) (n : ℕ) (s : State) (refusal : Option Refusal) → refusal ≡ refusal_of e n s → length bytes ≡ n →
-    IsAnswer {A = Report} (applied (with_bytes bytes e) s) (Err (unwrap_or refusal OutOfMemory))
-dropped e bytes n s refusal is size =
-    let of_number : refusal ≡ refusal_of (with_bytes bytes e) (length (bytes_of (with_bytes bytes e))) s =
-    is ∙ ap (λ k. refusal_of e k s) (sym size) ∙ sym (by_number e bytes s) in
-    let Answers : Option Refusal → Type 0 = λ found. IsAnswer {A = Report} (unless_refused found (changed (with_bytes bytes e) s)) (Err (unwrap_or refusal OutOfMemory)) in
-    subst Answers of_number (dropped_at refusal (changed (with_bytes bytes e) s))
 
 -- A refusal that the definitions give, or out of memory where they give none.
 refused_as : (e : Edit) (bytes : List ℕ) (s : State) (r : Refusal) (made : Result State Refusal) → applied (with_bytes bytes e) s ≡ made → IsAnswer {A = Report} made (Err r) →

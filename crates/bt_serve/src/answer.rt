@@ -16,7 +16,6 @@ use bt_streams::{Sink, Source, StreamFailed, drop_bytes, read_bytes, say};
 use itoa::Buffer;
 use std::alloc::Global;
 
-/// Reads the bytes that an edit brings, and makes the edit.
 fn take_edit<S: Source>(
     alloc: Global,
     source: &mut S,

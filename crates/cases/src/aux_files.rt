@@ -47,7 +47,6 @@ fn push_lines(words: Words<'_>, out: &mut Answer) -> Done {
     Ok(())
 }
 
-/// The files of a case, each a word of its name and its text.
 fn files(words: Words<'_>) -> Result<Vec<File>, AllocError> {
     let mut files = Vec::new(words.alloc);
     for word in words.after(2) {

@@ -44,7 +44,6 @@ fn push_answer_of_texts(words: Words<'_>, out: &mut Answer) -> Done {
     }
 }
 
-/// Appends the answer of a case to `out`.
 fn push_answer(words: Words<'_>, out: &mut Answer) -> Done {
     match words.word(0) {
         "read_aux" | "read_citations" => aux_files::push_answer(words, out),

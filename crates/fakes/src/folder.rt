@@ -156,7 +156,6 @@ impl Memory {
         self.written.as_slice()
     }
 
-    /// The bytes of a name.
     fn held(&self, name: &[u8]) -> Option<&[u8]>
         ensures { option_map (λ b. b.now) result ≡ held_in self.now.given self.now.written name.now }
     {

@@ -11,7 +11,6 @@ use fakes::{Limits, Memory, Taker};
 use std::alloc::{AllocError, Global};
 use std::cell::Cell;
 
-/// The words of a command line, with `|` between them.
 fn words_of(alloc: Global, line: &str) -> Result<Vec<String>, AllocError> {
     let mut all = Vec::new(alloc);
     all.push(String::from_str(alloc, "bibtex")?)?;

@@ -28,7 +28,6 @@ const CASES: &[(&str, &str)] = &[
     ("free", "texts names full-line meter agreement refusing"),
 ];
 
-/// The verdict on a case.
 fn verdict_of(alloc: Global, group: &str, name: &str, part: Part) -> Result<Verdict, AllocError> {
     match group {
         "growing" => verdict_on::<Growing>(alloc, name, part),

@@ -31,7 +31,6 @@ fn push_texts<S: Tested>(session: &S, seen: &mut Bytes) -> Result<(), AllocError
     Ok(())
 }
 
-/// All that a session shows.
 fn seen<S: Tested>(alloc: Global, session: &S) -> Result<Bytes, AllocError> {
     let words = format!(in alloc; "{:?}", session.shown().messages)?;
     let mut seen = Bytes::from_vec(words.into_bytes());

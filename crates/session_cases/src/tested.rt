@@ -21,7 +21,6 @@ pub struct Shown<'a> {
 
 /// A session as the tests use it.
 pub trait Tested: Drop {
-    /// A session without files.
     fn begun(alloc: Global, root: &[u8], min: u32) -> Result<Self, Refusal>;
 
     fn make(&mut self, edit: Edit<'_>) -> Result<Report, Refusal>;
@@ -32,7 +31,6 @@ pub trait Tested: Drop {
         edits: &[Edit<'_>],
     ) -> Result<Vec<Result<Report, Refusal>>, AllocError>;
 
-    /// Runs the command loop.
     fn answer<S: Source, K: Sink>(
         &mut self,
         alloc: Global,
@@ -47,7 +45,6 @@ pub trait Tested: Drop {
 
     fn shown(&self) -> Shown<'_>;
 
-    /// The present text of a name.
     fn text(&self, name: &[u8]) -> Option<&[u8]>;
 }
 

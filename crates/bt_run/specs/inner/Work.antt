@@ -20,6 +20,7 @@ use Rattle.bt_run.specs.inner.Index.{IsIndex}
 use Rattle.bt_run.specs.inner.Earlier.{ArePlaced, AreSame}
 use Rattle.bt_run.specs.inner.Tags.{step_tag}
 use Rattle.bt_run.specs.inner.Turn.{AreInTurn, AreLeft, IsGivenAt}
+use Rattle.bt_run.specs.inner.Links.{AreLinked, AreLast}
 use Rattle.bt_run.specs.inner.Alike.{AreAsked}
 use Rattle.bt_run.specs.inner.Calls.{AreCalls, AreCallsFrom}
 use Rattle.bt_run.specs.Work.{IsStep, work_under, total_cost}
@@ -74,7 +75,7 @@ pub record IsNext (p : Program) (earlier : List Step) (t : Step) (before after :
 -- What the steps of a run over earlier ones keep to, in the world after them: what was carried out is the work of them,
 -- and costs at most a million ticks for each; they are steps of the style; what was worked out of the style is so; the
 -- index, if there is one, is that of the earlier steps; what is known of entries, globals and the held line without
--- comparing them is so; and so are the tags and the calls; the entries are those that READ found.
+-- comparing them is so; and so are the tags, the calls and the links between steps for one entry; the entries are those that READ found.
 pub record IsConsistent (p : Program) (earlier : Earlier) (w : World) (s : KeptSteps) : Type 0 where
   pub ran : s.reuse.ran ≡ length (work_under p earlier.steps.now s.steps)
   pub ticks : s.reuse.meter ≡ total_cost (work_under p earlier.steps.now s.steps)
@@ -92,6 +93,10 @@ pub record IsConsistent (p : Program) (earlier : Earlier) (w : World) (s : KeptS
   pub given : IsTrue s.in_step → IsGivenAt earlier.steps.now s.reuse.next w
   pub called : ForSome s.calls (AreCallsFrom earlier.steps.now s.reuse.next s.steps)
   pub found : AreAsked s.asked w.entries
+  pub spread : length s.previous ≡ length s.steps
+  pub linked : AreLinked s.steps s.previous
+  pub lasts : AreLast w s.steps s.lasts
+  pub origins : AreLast w earlier.steps.now s.origins
 
 -- what the next run may know of the steps of this one, whose entries these are
 pub record AreKept (entries : List Entry) (s : KeptSteps) : Type 0 where
@@ -100,10 +105,11 @@ pub record AreKept (entries : List Entry) (s : KeptSteps) : Type 0 where
   pub in_turn : AreInTurn s.steps
   pub called : ForSome s.all_calls (AreCalls s.steps)
   pub found : AreAsked s.asked entries
+  pub linked : AreLinked s.steps s.previous
 
 -- No step was taken, and nothing is known.
 abbrev pub IsBegun : KeptSteps → Type 0
 IsBegun s =
     (s.steps ≡ []) × (s.places ≡ []) × (s.same ≡ []) × (s.reuse.ran ≡ 0) × (s.reuse.meter ≡ 0) × (s.reuse.known ≡ [])
     × (s.reuse.lookup.index ≡ None) × (s.tags ≡ []) × (s.in_step ≡ false) × (s.reuse.next ≡ 0) × (s.all_calls ≡ None)
-    × (s.asked ≡ None)
+    × (s.asked ≡ None) × (s.previous ≡ []) × (s.lasts ≡ []) × (s.origins ≡ [])

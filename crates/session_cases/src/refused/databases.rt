@@ -28,7 +28,6 @@ pub struct Rereading {
     ghost read: { items ≡ pieces_of text },
 }
 
-/// A text with other bytes in the place of one.
 fn with_inserted(
     alloc: Global,
     text: &[u8],

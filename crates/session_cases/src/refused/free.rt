@@ -65,7 +65,6 @@ fn are_patterns_refused(alloc: Global) -> bool {
         && is_not_formatted(alloc, b"A", b"}", FormatFault::PatternFault(0))
 }
 
-/// Whether names have their fault.
 fn are_names_right(alloc: Global) -> bool {
     has_no_parts(alloc, b"", 1, NameFault::NoSuchName)
         && has_no_parts(alloc, b"A and B", 3, NameFault::NoSuchName)

@@ -64,7 +64,6 @@ fn texts(alloc: Global) -> Result<SparseTexts, AllocError> {
     Ok(texts)
 }
 
-/// Gives another place a text.
 fn set(alloc: Global, texts: &mut SparseTexts) -> Result<(), AllocError> {
     let line = Shared::<Bytes>::copied(alloc, LINE)?;
     texts.set(9, Some(line))

@@ -2,8 +2,11 @@ use Rattle.std.proofs.Common.{◌∙◌, ap, sym, subst, map, List, None}
 use Rattle.bt_style.specs.Program.{program_of}
 use Rattle.bt_actions.specs.declared.entry.Entry.{Entry}
 use Rattle.bt_run.specs.declared.course.Step.{Step}
+use Rattle.bt_run.specs.declared.kept_steps.KeptSteps.{KeptSteps}
+use Rattle.bt_run.specs.Course.{course_world}
 use Rattle.bt_run.specs.inner.Earlier.{AreSame, fixed_at}
 use Rattle.bt_run.specs.inner.JobView.{job_of}
+use Rattle.bt_run.specs.inner.Work.{IsConsistent}
 use Rattle.bt_run.proofs.CommandLemmas.{read_consistent}
 use Rattle.bt_run.proofs.kept_steps.KeptStepsRecorder.read.Goals as goal
 
@@ -13,9 +16,15 @@ returns-clause-ready c =
     let s = c.args.self.now in
     let same = c.in_ok-same.same in
     let are_none = c.in_ok-places.ensures ∙ ap (map (λ (s : Step). None)) c.as_slice.ensures in
-    let are_same = subst (λ (es : List Entry). AreSame job.earlier.entries.now es same) c.as_slice-2.ensures c.in_ok-same.ensures in
-    read_consistent (program_of job.style.now) job.earlier (job_of job) c.args.number c.args.course.now c.read.new.course s
-    c.read.new.readings c.in_ok-places.places same c.in_ok-asked.asked c.in_ok-alike.ensures.run are_none are_same c.in_ok-asked.ensures c.requires
+    let no_lasts = c.in_ok-lasts.ensures ∙ ap (map (λ (e : Entry). None)) c.as_slice-2.ensures in
+    let no_origins = c.in_ok-origins.ensures ∙ ap (map (λ (e : Entry). None)) c.as_slice-3.ensures in
+    let are_same = subst (λ (es : List Entry). AreSame job.earlier.entries.now es same) c.as_slice-4.ensures c.in_ok-same.ensures in
+    subst (λ (k : KeptSteps). IsConsistent (program_of job.style.now) job.earlier (course_world c.read.new.course) k) (sym c.in_ok-make_room.ensures)
+    (read_consistent (program_of job.style.now) job.earlier (job_of job) c.args.number c.args.course.now c.read.new.course s
+    c.read.new.readings c.in_ok-places.places c.in_ok-lasts.lasts c.in_ok-origins.origins same c.in_ok-asked.asked c.in_ok-alike.ensures.run are_none no_lasts no_origins are_same c.in_ok-asked.ensures c.requires)
+
+pub returns-clause-seen : goal.returns-clause-seen
+returns-clause-seen c = ap (λ (k : KeptSteps). k.steps) c.in_ok-make_room.ensures
 
 pub same_entries-requires : goal.same_entries-requires
-same_entries-requires c = λ n stays. c.in_ok-alike.ensures.alike n stays ∙ ap (λ (es : List Entry). fixed_at es n) (sym c.as_slice-2.ensures)
+same_entries-requires c = λ n stays. c.in_ok-alike.ensures.alike n stays ∙ ap (λ (es : List Entry). fixed_at es n) (sym c.as_slice-4.ensures)
