@@ -2,10 +2,10 @@
 
 use crate::checker::{Arguments, Checker};
 use crate::fault::FaultKind;
-use crate::kinds::{INTEGER, Kinds, STRING};
 use crate::signature::is_of_entries;
 use crate::state::State;
 use crate::values::{Node, Value, ZERO};
+use bt_known::{INTEGER, Kinds, STRING};
 use bt_style::Builtin;
 use std::alloc::AllocError;
 

@@ -5,12 +5,12 @@
 
 use crate::facts::Facts;
 use crate::fault::{Call, Condition, Fault, FaultKind, FieldState, Step, kinds_words};
-use crate::kinds::{ANY, INTEGER, Kinds, NONE, STRING};
 use crate::signature::takes;
 use crate::splitting::Split;
 use crate::state::State;
 use crate::values::{Node, Value, Values, ZERO};
 use crate::watching::Watch;
+use bt_known::{ANY, INTEGER, Kinds, NONE, STRING};
 use bt_style::{Builtin, Style, Target};
 use bt_text::Bytes;
 use bt_words::Program;

@@ -1,82 +1,9 @@
 //! What the facts of a path say of an integer: whether it is above 0, and its bounds.
 
-ghost use Rattle.std.specs.Int.{int_max, int_min};
-ghost use Rattle.std.specs.Prelude.{◌≡◌, ◌≤ℤ◌, ◌<ℤ◌, Some, true, false};
-
 use crate::facts::Facts;
 use crate::values::{Choice, Made, Node, TREE_DEPTH, Value, Values, is_test, node_kinds};
+use bt_known::{Bounds, UNBOUNDED};
 use bt_style::Builtin;
-
-#[derive(Clone, Copy)]
-pub struct Bounds {
-    pub low: i64,
-    pub high: i64,
-}
-
-pub const UNBOUNDED: Bounds = Bounds {
-    low: i64::MIN,
-    high: i64::MAX,
-};
-
-fn exactly(number: i32) -> Bounds {
-    Bounds {
-        low: i64::from(number),
-        high: i64::from(number),
-    }
-}
-
-fn is_above(ours: Bounds, theirs: Bounds) -> Option<bool>
-    ensures above { result ≡ Some true → theirs.high <ℤ ours.low }
-    ensures below { result ≡ Some false → ours.high ≤ℤ theirs.low }
-{
-    if ours.low > theirs.high {
-        Some(true)
-    } else if ours.high <= theirs.low {
-        Some(false)
-    } else {
-        None
-    }
-}
-
-impl Bounds {
-    fn sum(self, other: Bounds) -> Bounds {
-        Bounds {
-            low: self.low.saturating_add(other.low),
-            high: self.high.saturating_add(other.high),
-        }
-    }
-
-    fn difference(self, other: Bounds) -> Bounds {
-        Bounds {
-            low: self.low.saturating_sub(other.high),
-            high: self.high.saturating_sub(other.low),
-        }
-    }
-
-    fn or(self, other: Bounds) -> Bounds
-        ensures low { result.low ≡ int_min self.low other.low }
-        ensures high { result.high ≡ int_max self.high other.high }
-    {
-        Bounds {
-            low: self.low.min(other.low),
-            high: self.high.max(other.high),
-        }
-    }
-
-    fn and(self, other: Bounds) -> Bounds
-        ensures low { result.low ≡ int_max self.low other.low }
-        ensures high { result.high ≡ int_min self.high other.high }
-    {
-        Bounds {
-            low: self.low.max(other.low),
-            high: self.high.min(other.high),
-        }
-    }
-
-    fn is_positive(self) -> Option<bool> {
-        is_above(self, exactly(0))
-    }
-}
 
 impl Values {
     pub fn decide(&self, facts: &Facts, value: Value) -> Option<bool> {
@@ -137,14 +64,14 @@ impl Values {
                 Some(only) => Some(!self.is_solid(only)),
                 None => None,
             },
-            Builtin::Greater => is_above(
-                self.bounds_within(facts, made.first, depth - 1),
-                self.bounds_within(facts, made.second, depth - 1),
-            ),
-            Builtin::Less => is_above(
-                self.bounds_within(facts, made.second, depth - 1),
-                self.bounds_within(facts, made.first, depth - 1),
-            ),
+            Builtin::Greater => {
+                let first = self.bounds_within(facts, made.first, depth - 1);
+                first.is_above(self.bounds_within(facts, made.second, depth - 1))
+            },
+            Builtin::Less => {
+                let second = self.bounds_within(facts, made.second, depth - 1);
+                second.is_above(self.bounds_within(facts, made.first, depth - 1))
+            },
             _ => self.bounds_within(facts, value, depth - 1).is_positive(),
         }
     }
@@ -162,20 +89,13 @@ impl Values {
             return UNBOUNDED;
         }
         let bounds = match self.node(value) {
-            Node::Integer(number) => exactly(number),
-            Node::Unknown(unknown) => Bounds {
-                low: unknown.low,
-                high: unknown.high,
-            },
+            Node::Integer(number) => Bounds::exactly(number),
+            Node::Unknown(unknown) => unknown.bounds,
             Node::Choice(choice) => self.choice_bounds(facts, choice, depth - 1),
             Node::Made(made) => self.made_bounds(facts, made, depth - 1),
             _ => UNBOUNDED,
         };
-        let known = facts.of(value);
-        bounds.and(Bounds {
-            low: known.low,
-            high: known.high,
-        })
+        bounds.and(facts.of(value).bounds)
     }
 
     #[cycle(deciding)]
@@ -209,15 +129,9 @@ impl Values {
             }
             Builtin::NumNames => {
                 let is_given = self.decide_within(facts, made.second, depth - 1) == Some(false);
-                Bounds {
-                    low: i64::from(is_given),
-                    high: i64::MAX,
-                }
+                Bounds::at_least(i64::from(is_given))
             }
-            Builtin::ChrToInt | Builtin::TextLength => Bounds {
-                low: 0,
-                high: i64::MAX,
-            },
+            Builtin::ChrToInt | Builtin::TextLength => Bounds::at_least(0),
             by => {
                 if is_test(by) {
                     Bounds { low: 0, high: 1 }

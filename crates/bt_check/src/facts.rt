@@ -2,61 +2,11 @@
 //!
 //! A value never changes (only variables do), so what a branch learns of a value holds for the rest of the step.
 
-ghost use Rattle.std.specs.Int.{int_max, int_min};
-ghost use Rattle.std.specs.Prelude.{◌≡◌};
-
 use crate::values::Value;
+use bt_known::{Known, NOTHING};
 use std::alloc::{AllocError, Global};
 
-#[derive(Clone, Copy, PartialEq, Eq)]
-pub struct Known {
-    /// Whether the integer is above 0.
-    pub truth: Option<bool>,
-    /// The constant that the string equals.
-    pub only: Option<Value>,
-    pub low: i64,
-    pub high: i64,
-    /// How many other values were known before it.
-    pub age: usize,
-}
-
-pub const NOTHING: Known = Known {
-    truth: None,
-    only: None,
-    low: i64::MIN,
-    high: i64::MAX,
-    age: 0,
-};
-
-impl Known {
-    fn says_nothing(self) -> bool {
-        self.truth.is_none() && self.only.is_none() && self.low == i64::MIN && self.high == i64::MAX
-    }
-
-    /// What holds where either of them holds.
-    pub fn joined(self, other: Known) -> Known
-        ensures low { result.low ≡ int_min self.low other.low }
-        ensures high { result.high ≡ int_max self.high other.high }
-    {
-        Known {
-            truth: if self.truth == other.truth {
-                self.truth
-            } else {
-                None
-            },
-            only: if self.only == other.only {
-                self.only
-            } else {
-                None
-            },
-            low: self.low.min(other.low),
-            high: self.high.max(other.high),
-            age: self.age,
-        }
-    }
-}
-
-/// That a choice is (or isn't) above 0, of which more may follow once its test is decided.
+/// That a value is (or isn't) above 0. Of a choice more may follow once its test is decided.
 #[derive(Clone, Copy, PartialEq, Eq)]
 pub struct Assumed {
     pub value: Value,
@@ -73,6 +23,13 @@ pub struct Facts {
     values: Vec<Value>,
     known: Vec<Known>,
     pub assumed: Vec<Assumed>,
+}
+
+/// What is known on two paths that meet.
+#[derive(Clone, Copy)]
+pub struct Meeting<'f> {
+    pub ours: &'f Facts,
+    pub theirs: &'f Facts,
 }
 
 impl Facts {

@@ -110,7 +110,7 @@ pub struct Fault {
 /// The words about kinds: `integer or string`.
 pub fn kinds_words(
     alloc: Global,
-    kinds: crate::kinds::Kinds,
+    kinds: bt_known::Kinds,
     field: &[u8],
 ) -> Result<Bytes, AllocError> {
     let mut words = Bytes::new(alloc);

@@ -1,12 +1,11 @@
 //! The heads of a loop: what is known each time that it begins a turn, for each depth of the stack.
 
 use crate::checker::Checker;
-use crate::deciding::{Bounds, UNBOUNDED};
-use crate::facts::Facts;
+use crate::facts::Meeting;
 use crate::fault::FaultKind;
-use crate::kinds::{INTEGER, Kinds};
 use crate::state::State;
 use crate::values::{Node, Unknown, Value};
+use bt_known::{Bounds, INTEGER, Kinds, UNBOUNDED};
 use bt_style::Builtin;
 use std::alloc::AllocError;
 
@@ -149,18 +148,12 @@ impl<'a> Checker<'a> {
     /// Makes a head cover another state of its depth, and says whether it changed. What a turn changes becomes unknown,
     /// with the kinds and bounds that it can have.
     fn widen(&mut self, head: &mut State, other: &State) -> Result<bool, AllocError> {
-        let stack = self.widen_all(
-            &head.facts,
-            &mut head.stack,
-            &other.facts,
-            other.stack.as_slice(),
-        )?;
-        let variables = self.widen_all(
-            &head.facts,
-            &mut head.variables,
-            &other.facts,
-            other.variables.as_slice(),
-        )?;
+        let paths = Meeting {
+            ours: &head.facts,
+            theirs: &other.facts,
+        };
+        let stack = self.widen_all(paths, &mut head.stack, other.stack.as_slice())?;
+        let variables = self.widen_all(paths, &mut head.variables, other.variables.as_slice())?;
         let facts = head.facts.joined(&other.facts, self.alloc)?;
         let is_same = facts.is_same(&head.facts);
         head.facts = facts;
@@ -169,16 +162,15 @@ impl<'a> Checker<'a> {
 
     fn widen_all(
         &mut self,
-        facts: &Facts,
+        paths: Meeting<'_>,
         values: &mut Vec<Value>,
-        other_facts: &Facts,
         others: &[Value],
     ) -> Result<bool, AllocError> {
         let mut is_changed = false;
         for place in 0..others.len() {
             if let (Some(value), Some(other)) = (values.get_mut(place), others.get(place)) {
                 if *value != *other {
-                    let wide = self.widened(facts, *value, other_facts, *other)?;
+                    let wide = self.widened(paths, *value, *other)?;
                     is_changed = is_changed || wide != *value;
                     *value = wide;
                 }
@@ -189,38 +181,28 @@ impl<'a> Checker<'a> {
 
     fn widened(
         &mut self,
-        facts: &Facts,
+        paths: Meeting<'_>,
         value: Value,
-        other_facts: &Facts,
         other: Value,
     ) -> Result<Value, AllocError> {
-        let kinds = self
-            .values
-            .kinds(facts, value)?
-            .or(self.values.kinds(other_facts, other)?);
-        let bounds = self.widened_bounds(facts, value, other_facts, other, kinds);
+        let kinds = self.values.kinds_of_either(paths, value, other)?;
+        let bounds = if kinds.is_within(INTEGER) {
+            self.widened_bounds(paths, value, other)
+        } else {
+            UNBOUNDED
+        };
         if let Node::Unknown(unknown) = self.values.node(value) {
             if is_covered(unknown, kinds, bounds) {
                 return Ok(value);
             }
         }
-        self.values.unknown(kinds, bounds.low, bounds.high, true)
+        self.values.unknown(kinds, bounds, true)
     }
 
     /// The bounds of the old value where those of the new one are within them, else none.
-    fn widened_bounds(
-        &mut self,
-        facts: &Facts,
-        value: Value,
-        other_facts: &Facts,
-        other: Value,
-        kinds: Kinds,
-    ) -> Bounds {
-        if !kinds.is_within(INTEGER) {
-            return UNBOUNDED;
-        }
-        let old = self.values.bounds(facts, value);
-        let new = self.values.bounds(other_facts, other);
+    fn widened_bounds(&mut self, paths: Meeting<'_>, value: Value, other: Value) -> Bounds {
+        let old = self.values.bounds(paths.ours, value);
+        let new = self.values.bounds(paths.theirs, other);
         Bounds {
             low: if new.low < old.low { i64::MIN } else { old.low },
             high: if new.high > old.high {
@@ -233,8 +215,5 @@ impl<'a> Checker<'a> {
 }
 
 fn is_covered(unknown: Unknown, kinds: Kinds, bounds: Bounds) -> bool {
-    unknown.is_general
-        && unknown.kinds == kinds
-        && unknown.low == bounds.low
-        && unknown.high == bounds.high
+    unknown.is_general && unknown.kinds == kinds && unknown.bounds == bounds
 }

@@ -141,11 +141,14 @@ fn note_all(checker: &Checker<'_>, uses: &mut Uses) -> Result<(), AllocError> {
     Ok(())
 }
 
-fn found_uses(checker: &Checker<'_>, catalogue: &Catalogue) -> Result<Uses, AllocError> {
-    let functions = used_functions(checker, catalogue)?;
-    let mut uses = uses_of(checker, functions)?;
-    note_all(checker, &mut uses)?;
-    Ok(uses)
+impl Checker<'_> {
+    fn uses(&mut self, catalogue: &Catalogue, types: &[usize]) -> Result<Uses, AllocError> {
+        self.types = Vec::from_slice(self.alloc, types)?;
+        let functions = used_functions(self, catalogue)?;
+        let mut uses = uses_of(self, functions)?;
+        note_all(self, &mut uses)?;
+        Ok(uses)
+    }
 }
 
 #[derive(Drop)]
@@ -211,22 +214,19 @@ impl<'a> Linter<'a> {
         self.tell(rule, line, &[kind, name, how])
     }
 
-    /// The variables of one kind, whose places begin here; the first ones aren't declared by the style.
+    /// The variables of one kind that the style declares, whose places begin here.
     fn variables(
         &mut self,
         kind: &[u8],
         names: &[Bytes],
         first: usize,
-        preset: usize,
         uses: &Uses,
     ) -> Result<(), AllocError> {
         for (number, name) in names.iter().enumerate() {
-            if number >= preset {
-                let place = first.saturating_add(number);
-                let is_read = is_marked(uses.read.as_slice(), place);
-                let is_set = is_marked(uses.set.as_slice(), place);
-                self.variable(kind, name.as_slice(), is_read, is_set)?;
-            }
+            let place = first.saturating_add(number);
+            let is_read = is_marked(uses.read.as_slice(), place);
+            let is_set = is_marked(uses.set.as_slice(), place);
+            self.variable(kind, name.as_slice(), is_read, is_set)?;
         }
         Ok(())
     }
@@ -239,16 +239,23 @@ impl<'a> Linter<'a> {
         let at_texts = numbers.len();
         let at_globals = at_texts.saturating_add(texts.len());
         let at_last = at_globals.saturating_add(globals.len());
-        self.variables(b"the entry integer ", numbers, 0, 0, uses)?;
-        self.variables(b"the entry string ", texts, at_texts, 1, uses)?;
-        self.variables(b"the integer ", globals, at_globals, 2, uses)?;
+        self.variables(b"the entry integer ", numbers, 0, uses)?;
+        // No style declares `sort.key$`, nor `entry.max$` and `global.max$`, which come first.
+        let declared = texts.get(1..).unwrap_or(&[]);
         self.variables(
-            b"the string ",
-            style.global_texts.as_slice(),
-            at_last,
-            0,
+            b"the entry string ",
+            declared,
+            at_texts.saturating_add(1),
             uses,
-        )
+        )?;
+        let declared = globals.get(2..).unwrap_or(&[]);
+        self.variables(
+            b"the integer ",
+            declared,
+            at_globals.saturating_add(2),
+            uses,
+        )?;
+        self.variables(b"the string ", style.global_texts.as_slice(), at_last, uses)
     }
 
     fn has_function(&self, name: &[u8]) -> bool {
@@ -328,8 +335,9 @@ fn uses_with(
 ) -> Result<Uses, AllocError> {
     let catalogue = Catalogue::of(alloc, style, program)?;
     let mut checker = Checker::new(alloc, style, program, 0)?;
-    checker.types = Vec::from_slice(alloc, types)?;
-    found_uses(&checker, &catalogue)
+    let uses = checker.uses(&catalogue, types);
+    drop(checker);
+    uses
 }
 
 /// Lints a style that this text spells, which was checked. The one error is out of memory.

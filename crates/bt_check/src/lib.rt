@@ -12,7 +12,6 @@ mod facts;
 mod fault;
 mod heads;
 mod hints;
-mod kinds;
 mod making;
 mod paths;
 mod refining;
@@ -27,7 +26,6 @@ mod watching;
 
 pub use fault::{Call, Condition, Fault, FaultKind, FieldState, Step};
 pub use hints::{Hint, Rule, lint};
-pub use kinds::Kinds;
 pub use steps::{Findings, check};
 pub use telling::{decimal, field_name, function_name};
-pub use watching::{Lying, Spot, Watched, watch_function};
+pub use watching::{Lying, Spot, Watched, Watcher};

@@ -1,7 +1,7 @@
 //! What built-in functions make of values; what is known before a run is computed.
 
-use crate::kinds::INTEGER;
 use crate::values::{Choice, Node, ONE, TREE_DEPTH, Value, Values, ZERO};
+use bt_known::INTEGER;
 use bt_style::Builtin;
 use std::alloc::AllocError;
 

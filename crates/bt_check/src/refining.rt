@@ -1,36 +1,29 @@
 //! What follows for a path from the outcome of a test.
 
-use crate::deciding::Bounds;
 use crate::facts::{Assumed, Facts};
 use crate::values::{Choice, Made, Node, Value, Values, ZERO, node_kinds};
+use bt_known::Bounds;
 use bt_style::Builtin;
 use std::alloc::AllocError;
 
 /// How deep one conclusion may lead to another. Beyond it nothing more is concluded.
 const DEPTH: usize = 400;
 
-fn at_least(low: i64) -> Bounds {
-    Bounds {
-        low,
-        high: i64::MAX,
-    }
-}
-
-fn at_most(high: i64) -> Bounds {
-    Bounds {
-        low: i64::MIN,
-        high,
-    }
-}
-
 fn signed(is_positive: bool) -> Bounds {
-    if is_positive { at_least(1) } else { at_most(0) }
+    if is_positive {
+        Bounds::at_least(1)
+    } else {
+        Bounds::at_most(0)
+    }
+}
+
+fn assumption(value: Value, truth: bool) -> Assumed {
+    Assumed { value, truth }
 }
 
 fn narrow(facts: &mut Facts, value: Value, bounds: Bounds) -> Result<(), AllocError> {
     let mut known = facts.of(value);
-    known.low = known.low.max(bounds.low);
-    known.high = known.high.min(bounds.high);
+    known.bounds = known.bounds.and(bounds);
     facts.put(value, known)
 }
 
@@ -48,31 +41,30 @@ impl Values {
         value: Value,
         truth: bool,
     ) -> Result<Option<Facts>, AllocError> {
-        self.refine_within(facts, value, truth, DEPTH)
+        self.refine_within(facts, assumption(value, truth), DEPTH)
     }
 
     #[cycle(refining)]
     fn refine_within(
         &mut self,
         facts: &Facts,
-        value: Value,
-        truth: bool,
+        assumed: Assumed,
         depth: usize,
     ) -> Result<Option<Facts>, AllocError> {
         if depth == 0 || !self.spend() {
             return Ok(Some(facts.copied(self.alloc)?));
         }
-        match self.decide(facts, value) {
+        match self.decide(facts, assumed.value) {
             Some(known) => {
-                if known == truth {
+                if known == assumed.truth {
                     Ok(Some(facts.copied(self.alloc)?))
                 } else {
                     Ok(None)
                 }
             }
-            None => match self.node(value) {
-                Node::Choice(choice) => self.refine_choice(facts, value, choice, truth, depth - 1),
-                node => self.refine_plain(facts, value, node, truth, depth - 1),
+            None => match self.node(assumed.value) {
+                Node::Choice(choice) => self.refine_choice(facts, assumed, choice, depth - 1),
+                node => self.refine_plain(facts, assumed, node, depth - 1),
             },
         }
     }
@@ -92,17 +84,16 @@ impl Values {
     fn refine_plain(
         &mut self,
         facts: &Facts,
-        value: Value,
+        learnt: Assumed,
         node: Node,
-        truth: bool,
         depth: usize,
     ) -> Result<Option<Facts>, AllocError> {
         if depth == 0 {
             return Ok(Some(facts.copied(self.alloc)?));
         }
         let mut now = facts.copied(self.alloc)?;
-        now.put_truth(value, truth)?;
-        self.learn(&mut now, value, node, truth)?;
+        now.put_truth(learnt.value, learnt.truth)?;
+        self.learn(&mut now, learnt.value, node, learnt.truth)?;
         for assumed in &facts.assumed {
             match self.again(now, *assumed, depth - 1)? {
                 Some(next) => now = next,
@@ -116,17 +107,15 @@ impl Values {
     fn refine_both(
         &mut self,
         facts: &Facts,
-        test: Value,
-        is_test: bool,
-        value: Value,
-        truth: bool,
+        test: Assumed,
+        side: Assumed,
         depth: usize,
     ) -> Result<Option<Facts>, AllocError> {
         if depth == 0 {
             return Ok(Some(facts.copied(self.alloc)?));
         }
-        match self.refine_within(facts, test, is_test, depth - 1)? {
-            Some(then) => self.refine_within(&then, value, truth, depth - 1),
+        match self.refine_within(facts, test, depth - 1)? {
+            Some(then) => self.refine_within(&then, side, depth - 1),
             None => Ok(None),
         }
     }
@@ -135,22 +124,30 @@ impl Values {
     fn refine_choice(
         &mut self,
         facts: &Facts,
-        value: Value,
+        assumed: Assumed,
         choice: Choice,
-        truth: bool,
         depth: usize,
     ) -> Result<Option<Facts>, AllocError> {
         if depth == 0 {
             return Ok(Some(facts.copied(self.alloc)?));
         }
+        let Assumed { value, truth } = assumed;
         let (can_then, can_other) = self.sides(facts, choice, truth);
         let then = if can_then {
-            self.refine_both(facts, choice.test, true, choice.then, truth, depth - 1)?
+            let (test, side) = (
+                assumption(choice.test, true),
+                assumption(choice.then, truth),
+            );
+            self.refine_both(facts, test, side, depth - 1)?
         } else {
             None
         };
         let other = if can_other {
-            self.refine_both(facts, choice.test, false, choice.other, truth, depth - 1)?
+            let (test, side) = (
+                assumption(choice.test, false),
+                assumption(choice.other, truth),
+            );
+            self.refine_both(facts, test, side, depth - 1)?
         } else {
             None
         };
@@ -184,13 +181,12 @@ impl Values {
         if can_then && can_other {
             return Ok(Some(facts));
         }
-        let Assumed { value, truth } = assumed;
         // It isn't assumed meanwhile: else each fact that follows would begin the same conclusions again.
         facts.forget(assumed);
-        let Some(mut next) = self.refine_choice(&facts, value, choice, truth, depth - 1)? else {
+        let Some(mut next) = self.refine_choice(&facts, assumed, choice, depth - 1)? else {
             return Ok(None);
         };
-        next.assume(value, truth)?;
+        next.assume(assumed.value, assumed.truth)?;
         Ok(Some(next))
     }
 
@@ -260,11 +256,11 @@ impl Values {
         let above = self.bounds(facts, upper);
         let below = self.bounds(facts, lower);
         if truth {
-            narrow(facts, upper, at_least(below.low.saturating_add(1)))?;
-            narrow(facts, lower, at_most(above.high.saturating_sub(1)))
+            narrow(facts, upper, Bounds::at_least(below.low.saturating_add(1)))?;
+            narrow(facts, lower, Bounds::at_most(above.high.saturating_sub(1)))
         } else {
-            narrow(facts, upper, at_most(below.high))?;
-            narrow(facts, lower, at_least(above.low))
+            narrow(facts, upper, Bounds::at_most(below.high))?;
+            narrow(facts, lower, Bounds::at_least(above.low))
         }
     }
 }

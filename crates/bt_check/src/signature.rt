@@ -1,6 +1,6 @@
 //! What each built-in function takes from the stack.
 
-use crate::kinds::{ANY, FIELD, FUNCTION, INTEGER, Kinds, STRING};
+use bt_known::{ANY, FIELD, FUNCTION, INTEGER, Kinds, STRING};
 use bt_style::Builtin;
 
 /// The kinds that a built-in function takes, those of the lowest argument first.

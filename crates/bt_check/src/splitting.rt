@@ -1,8 +1,8 @@
 //! The kinds that a value can have on a path, and the paths on which it has a wanted one.
 
-use crate::facts::Facts;
-use crate::kinds::{ANY, Kinds, MISSING, NONE};
+use crate::facts::{Assumed, Facts, Meeting};
 use crate::values::{Choice, Made, Node, Value, Values, ZERO, node_kinds};
+use bt_known::{ANY, Kinds, MISSING, NONE};
 use bt_style::Builtin;
 use std::alloc::AllocError;
 
@@ -94,8 +94,13 @@ impl Values {
                 if kinds.is_single() {
                     return Ok(kinds);
                 }
-                let then = self.kinds_if(facts, choice.test, true, choice.then, depth - 1)?;
-                let other = self.kinds_if(facts, choice.test, false, choice.other, depth - 1)?;
+                let mut assumed = Assumed {
+                    value: choice.test,
+                    truth: true,
+                };
+                let then = self.kinds_if(facts, assumed, choice.then, depth - 1)?;
+                assumed.truth = false;
+                let other = self.kinds_if(facts, assumed, choice.other, depth - 1)?;
                 Ok(kinds.and(then.or(other)))
             }
         }
@@ -105,18 +110,28 @@ impl Values {
     fn kinds_if(
         &mut self,
         facts: &Facts,
-        test: Value,
-        truth: bool,
+        assumed: Assumed,
         value: Value,
         depth: usize,
     ) -> Result<Kinds, AllocError> {
         if depth == 0 {
             return Ok(ANY);
         }
-        match self.refine(facts, test, truth)? {
+        match self.refine(facts, assumed.value, assumed.truth)? {
             Some(facts) => self.kinds_within(&facts, value, depth - 1),
             None => Ok(NONE),
         }
+    }
+
+    /// The kinds that a value has on the first of two paths, or another one on the second.
+    pub fn kinds_of_either(
+        &mut self,
+        paths: Meeting<'_>,
+        value: Value,
+        other: Value,
+    ) -> Result<Kinds, AllocError> {
+        let ours = self.kinds(paths.ours, value)?;
+        Ok(ours.or(self.kinds(paths.theirs, other)?))
     }
 
     pub fn split(

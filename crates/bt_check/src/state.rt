@@ -1,8 +1,8 @@
 //! A state of a step on a set of paths: its stack, its variables, and what is known.
 
-use crate::facts::Facts;
-use crate::kinds::INTEGER;
+use crate::facts::{Facts, Meeting};
 use crate::values::{Value, Values};
+use bt_known::INTEGER;
 use std::alloc::{AllocError, Global};
 
 #[derive(Drop)]
@@ -46,12 +46,8 @@ impl State {
 }
 
 impl Values {
-    fn fork(
-        &mut self,
-        ours: &Facts,
-        theirs: &Facts,
-        preferred: Option<Value>,
-    ) -> Result<Fork, AllocError> {
+    fn fork(&mut self, paths: Meeting<'_>, preferred: Option<Value>) -> Result<Fork, AllocError> {
+        let Meeting { ours, theirs } = paths;
         if let Some(test) = preferred {
             if self.decide(ours, test) == Some(true) && self.decide(theirs, test) == Some(false) {
                 return Ok(Fork {
@@ -75,14 +71,11 @@ impl Values {
     fn join_value(
         &mut self,
         fork: Fork,
-        facts: &Facts,
+        paths: Meeting<'_>,
         value: Value,
-        other_facts: &Facts,
         other: Value,
     ) -> Result<Value, AllocError> {
-        let kinds = self
-            .kinds(facts, value)?
-            .or(self.kinds(other_facts, other)?);
+        let kinds = self.kinds_of_either(paths, value, other)?;
         if fork.is_turned {
             self.choice(fork.test, other, value, kinds)
         } else {
@@ -93,15 +86,14 @@ impl Values {
     fn join_values(
         &mut self,
         fork: Fork,
-        facts: &Facts,
+        paths: Meeting<'_>,
         values: &mut Vec<Value>,
-        other_facts: &Facts,
         others: &[Value],
     ) -> Result<(), AllocError> {
         for place in 0..others.len() {
             if let (Some(value), Some(other)) = (values.get_mut(place), others.get(place)) {
                 if *value != *other {
-                    *value = self.join_value(fork, facts, *value, other_facts, *other)?;
+                    *value = self.join_value(fork, paths, *value, *other)?;
                 }
             }
         }
@@ -115,20 +107,16 @@ impl Values {
         other: &State,
         preferred: Option<Value>,
     ) -> Result<(), AllocError> {
-        let fork = self.fork(&state.facts, &other.facts, preferred)?;
-        let others = &other.facts;
+        let paths = Meeting {
+            ours: &state.facts,
+            theirs: &other.facts,
+        };
+        let fork = self.fork(paths, preferred)?;
+        self.join_values(fork, paths, &mut state.stack, other.stack.as_slice())?;
         self.join_values(
             fork,
-            &state.facts,
-            &mut state.stack,
-            others,
-            other.stack.as_slice(),
-        )?;
-        self.join_values(
-            fork,
-            &state.facts,
+            paths,
             &mut state.variables,
-            others,
             other.variables.as_slice(),
         )?;
         state.facts = state.facts.joined(&other.facts, self.alloc)?;

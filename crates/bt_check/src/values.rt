@@ -3,7 +3,7 @@
 //! Each different tree has one number, so a fact about a value (`facts.rt`) is a fact about every copy of it. Trees in
 //! which choices are nested too deep become unknown values, which bounds the work for each word.
 
-use crate::kinds::{FIELD, FUNCTION, INTEGER, Kinds, STRING};
+use bt_known::{Bounds, FIELD, FUNCTION, INTEGER, Kinds, STRING, UNBOUNDED};
 use bt_style::{Builtin, Target};
 use indexmap::IndexSet;
 use std::alloc::{AllocError, Global};
@@ -34,8 +34,7 @@ pub struct Unknown {
     /// Tells it from other unknown values.
     pub number: usize,
     pub kinds: Kinds,
-    pub low: i64,
-    pub high: i64,
+    pub bounds: Bounds,
     /// Whether it stands for a value of each turn of a loop.
     pub is_general: bool,
 }
@@ -190,8 +189,7 @@ impl Values {
     pub fn unknown(
         &mut self,
         kinds: Kinds,
-        low: i64,
-        high: i64,
+        bounds: Bounds,
         is_general: bool,
     ) -> Result<Value, AllocError> {
         self.unknowns = self.unknowns.saturating_add(1);
@@ -200,8 +198,7 @@ impl Values {
             Node::Unknown(Unknown {
                 number,
                 kinds,
-                low,
-                high,
+                bounds,
                 is_general,
             }),
             false,
@@ -209,7 +206,7 @@ impl Values {
     }
 
     pub fn any(&mut self, kinds: Kinds) -> Result<Value, AllocError> {
-        self.unknown(kinds, i64::MIN, i64::MAX, false)
+        self.unknown(kinds, UNBOUNDED, false)
     }
 
     /// What a built-in function makes of values, without any simplification.

@@ -11,9 +11,9 @@ use crate::checker::Checker;
 use crate::evaluation::DEPTH;
 use crate::facts::Facts;
 use crate::fault::{FaultKind, Step};
-use crate::kinds::{ANY, Kinds};
 use crate::state::State;
 use crate::values::{Node, Value};
+use bt_known::{ANY, Kinds};
 use bt_style::{Style, Target};
 use bt_words::Program;
 use std::alloc::{AllocError, Global};
@@ -206,14 +206,18 @@ impl<'a> Checker<'a> {
         })
     }
 
+    fn lying_stack(&mut self, state: &State) -> Result<Vec<Lying>, AllocError> {
+        let mut stack = Vec::new(self.alloc);
+        for value in &state.stack {
+            stack.push(self.lying(&state.facts, *value)?)?;
+        }
+        Ok(stack)
+    }
+
     fn all_lying(&mut self, states: &[State]) -> Result<Vec<Vec<Lying>>, AllocError> {
         let mut all = Vec::new(self.alloc);
         for state in states {
-            let mut stack = Vec::new(self.alloc);
-            for value in &state.stack {
-                stack.push(self.lying(&state.facts, *value)?)?;
-            }
-            all.push(stack)?;
+            all.push(self.lying_stack(state)?)?;
         }
         Ok(all)
     }
@@ -236,26 +240,44 @@ impl<'a> Checker<'a> {
             takes,
         })
     }
+
+    fn watch_function(
+        &mut self,
+        function: usize,
+        spot: Option<Spot>,
+    ) -> Result<Option<Watched>, AllocError> {
+        let Some(takes) = self.taken_by(function)? else {
+            return Ok(None);
+        };
+        let found = self.watch_with(function, spot, takes)?;
+        Ok(if self.values.work == 0 || found.leaves.is_empty() {
+            None
+        } else {
+            Some(found)
+        })
+    }
 }
 
-/// What the function of this number does with the stack, and what lies there before a word, found in at most this many
-/// steps of analysis. None if that isn't known. The one error is out of memory.
-pub fn watch_function(
-    alloc: Global,
-    style: &Style,
-    program: &Program,
-    function: usize,
-    spot: Option<Spot>,
-    work: u64,
-) -> Result<Option<Watched>, AllocError> {
-    let mut checker = Checker::new(alloc, style, program, work)?;
-    let Some(takes) = checker.taken_by(function)? else {
-        return Ok(None);
-    };
-    let found = checker.watch_with(function, spot, takes)?;
-    Ok(if checker.values.work == 0 || found.leaves.is_empty() {
-        None
-    } else {
-        Some(found)
-    })
+/// Watches functions of a style, each for at most this many steps of analysis.
+#[derive(Clone, Copy)]
+pub struct Watcher<'a> {
+    pub style: &'a Style,
+    pub program: &'a Program,
+    pub work: u64,
+}
+
+impl Watcher<'_> {
+    /// What the function of this number does with the stack, and what lies there before a word. None if that isn't
+    /// known. The one error is out of memory.
+    pub fn watch(
+        &self,
+        alloc: Global,
+        function: usize,
+        spot: Option<Spot>,
+    ) -> Result<Option<Watched>, AllocError> {
+        let mut checker = Checker::new(alloc, self.style, self.program, self.work)?;
+        let found = checker.watch_function(function, spot);
+        drop(checker);
+        found
+    }
 }

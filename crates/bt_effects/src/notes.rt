@@ -3,7 +3,7 @@
 use crate::sentences::{before_words, effect_words};
 use crate::spots::{spot_of, word_at};
 use crate::words::with_notes;
-use bt_check::{Spot, Watched, watch_function};
+use bt_check::{Spot, Watched, Watcher};
 use bt_style::{Style, StyleRefusal, read_style};
 use bt_style_text::{Mark, marks_of, name_at, part};
 use bt_text::{Bytes, eq_ignore_ascii_case};
@@ -17,36 +17,30 @@ const WORK: u64 = 80_000;
 struct Scene<'a> {
     alloc: Global,
     text: &'a [u8],
-    style: &'a Style,
-    program: &'a Program,
+    watcher: Watcher<'a>,
     marks: &'a [Mark],
     place: usize,
 }
 
 impl Scene<'_> {
-    /// The style's function that is named at the place.
     fn named_function(&self) -> Option<usize> {
         let mark = name_at(self.marks, self.place)?;
         let name = part(self.text, mark.start, mark.end);
-        self.style.functions.iter().position(|function| eq_ignore_ascii_case(
+        self.watcher.style.functions.iter().position(|function| eq_ignore_ascii_case(
             function.name.as_slice(),
             name,
         ))
     }
 
-    fn watch(&self, function: usize, spot: Option<Spot>) -> Result<Option<Watched>, AllocError> {
-        watch_function(self.alloc, self.style, self.program, function, spot, WORK)
-    }
-
     /// What the function takes and leaves that is named at the place.
     fn effect(&self) -> Result<Bytes, AllocError> {
         if let Some(function) = self.named_function()
-            && let Some(found) = self.watch(function, None)?
+            && let Some(found) = self.watcher.watch(self.alloc, function, None)?
         {
             return effect_words(
                 self.alloc,
-                self.style.fields.as_slice(),
-                self.program,
+                self.watcher.style.fields.as_slice(),
+                self.watcher.program,
                 &found,
             );
         }
@@ -56,13 +50,13 @@ impl Scene<'_> {
     /// What lies on the stack before the word at the place.
     fn before(&self) -> Result<Bytes, AllocError> {
         if let Some(word) = word_at(self.marks, self.place)
-            && let Some(spot) = spot_of(self.alloc, self.program, word)?
-            && let Some(found) = self.watch(word.function, Some(spot))?
+            && let Some(spot) = spot_of(self.alloc, self.watcher.program, word)?
+            && let Some(found) = self.watcher.watch(self.alloc, word.function, Some(spot))?
         {
             return before_words(
                 self.alloc,
-                self.style.fields.as_slice(),
-                self.program,
+                self.watcher.style.fields.as_slice(),
+                self.watcher.program,
                 found.before.as_slice(),
             );
         }
@@ -76,19 +70,22 @@ impl Scene<'_> {
     }
 }
 
-fn notes_in(
+fn notes_in<'x>(
     alloc: Global,
-    text: &[u8],
-    style: &Style,
-    marks: &[Mark],
+    text: &'x [u8],
+    style: &'x Style,
+    marks: &'x [Mark],
     place: usize,
 ) -> Result<Bytes, AllocError> {
     let program = Program::of(alloc, style, text)?;
     let scene = Scene {
         alloc,
         text,
-        style,
-        program: &program,
+        watcher: Watcher {
+            style,
+            program: &program,
+            work: WORK,
+        },
         marks,
         place,
     };

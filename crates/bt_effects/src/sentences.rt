@@ -6,7 +6,8 @@ ghost use Rattle.bt_effects.specs.Words.{stack_words};
 ghost use Rattle.bt_effects.specs.Sentences.{more_ways, ways_words, effect_words, before_words};
 
 use crate::words::add_stack;
-use bt_check::{Kinds, Lying, Watched};
+use bt_check::{Lying, Watched};
+use bt_known::Kinds;
 use bt_text::Bytes;
 use bt_words::Program;
 use std::alloc::{AllocError, Global};
@@ -64,7 +65,6 @@ fn ways_from(
     Ok(words)
 }
 
-/// The ways in which values can lie there.
 fn ways_words(
     alloc: Global,
     fields: &[Bytes],

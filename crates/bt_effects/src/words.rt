@@ -4,7 +4,8 @@ ghost use Rattle.std.specs.Prelude.{◌≡◌, ◌++◌, OnOk, IfOk};
 ghost use Rattle.std.specs.List.{list_all};
 ghost use Rattle.bt_effects.specs.Words.{kinds_words, is_plain_byte, is_shown, text_words, field_name, field_words, integer_words, lying_words, more_values, stack_words, with_notes};
 
-use bt_check::{Kinds, Lying};
+use bt_check::Lying;
+use bt_known::Kinds;
 use bt_text::Bytes;
 use bt_words::Program;
 use itoa::Buffer;
@@ -13,7 +14,6 @@ use std::alloc::{AllocError, Global};
 /// The most bytes of a text that is shown as it is.
 const SHOWN_BYTES: usize = 40;
 
-/// What a value of some kinds is called.
 fn kinds_words(kinds: Kinds) -> &'static [u8]
     ensures { result.now ≡ kinds_words kinds.function kinds.integer kinds.missing kinds.string }
 {
@@ -46,7 +46,6 @@ fn is_shown(text: &[u8]) -> bool
     text.len() <= SHOWN_BYTES && has_plain_bytes(text)
 }
 
-/// Appends a constant of the style.
 fn add_text(words: &mut Bytes, text: &[u8]) -> Result<(), AllocError>
     ensures { OnOk result (words.new ≡ words.old ++ text_words text.now) }
 {
@@ -84,7 +83,6 @@ fn add_integer(words: &mut Bytes, number: i32) -> Result<(), AllocError>
     words.append_all(&[b"`#", buffer.format(number).as_bytes(), b"`"])
 }
 
-/// Appends a value.
 fn add_lying(
     words: &mut Bytes,
     fields: &[Bytes],
@@ -101,7 +99,6 @@ fn add_lying(
     }
 }
 
-/// Appends values behind others.
 fn add_more_values(
     words: &mut Bytes,
     fields: &[Bytes],

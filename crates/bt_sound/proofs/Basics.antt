@@ -44,9 +44,6 @@ use Rattle.bt_sound.proofs.Worlds.{GivenFits, given_if, if_at, told_clean, told_
 
 -- what is pushed
 
-any_given : (t : List ℕ) → GivenFits (Text any_text) (Gives (Txt t))
-any_given t = any_in t
-
 number_fits : (b : Primitive) (r : Range) (n : ℤ) → IsOverflow (OutOfRange b) → IsIn r n → GivenFits (Number r) (number_given b n)
 number_fits b r n o h = given_if (Number r) (fits_number n) (Gives (Num n)) (Errs (OutOfRange b) zero_item) h (inr o)
 

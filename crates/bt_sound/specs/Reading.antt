@@ -33,6 +33,10 @@ text_states m put =
 abbrev pub field_states : May → (May → State) → List State
 field_states m put = when m.missing (pushing (Text only_missing) (put only_missing)) (text_states m put)
 
+-- the state after a text above these values was copied that is so
+abbrev pub doubled_case : May → List Known → State → State
+doubled_case m ks s = pushing (Text m) (holding (Text m ∷ ks) s)
+
 -- the top twice, where a text is told apart as if it were read
 abbrev pub doubled : List Known → State → Option (List State)
 doubled [] s = None
@@ -84,6 +88,23 @@ of_own k s = record s { entry = Some k }
 
 abbrev pub of_variables : KnownEntry → State → KnownVariables → State
 of_variables k s v = of_own (record k { variables = v }) s
+
+-- the state after a name was read whose value is so
+
+abbrev pub field_case : ℕ → May → KnownEntry → State → State
+field_case n m k s = pushing (Text m) (of_own (field_known n m k) s)
+
+abbrev pub own_number_case : ℕ → Range → KnownEntry → State → State
+own_number_case n r k s = pushing (Number r) (of_variables k s (number_known n r k.variables))
+
+abbrev pub own_text_case : ℕ → May → KnownEntry → State → State
+own_text_case n m k s = pushing (Text m) (of_variables k s (text_known n m k.variables))
+
+abbrev pub global_number_case : ℕ → Range → State → State
+global_number_case n r s = pushing (Number r) (of_globals (number_known n r s.globals) s)
+
+abbrev pub global_text_case : ℕ → May → State → State
+global_text_case n m s = pushing (Text m) (of_globals (text_known n m s.globals) s)
 
 -- names that are read
 

@@ -3,7 +3,7 @@
 ghost use Rattle.std.specs.Prelude.{◌≡◌, ◌∷◌, IfOk, Some};
 ghost use Rattle.bt_actions.specs.Item.{Name};
 ghost use Rattle.bt_sound.specs.Known.{Run, Text, holding};
-ghost use Rattle.bt_sound.specs.Reading.{assigning, doubled, field_states, number_put, of_variables, pushing, text_put, value_put, when};
+ghost use Rattle.bt_sound.specs.Reading.{assigning, doubled, doubled_case, field_states, number_put, of_variables, text_put, value_put, when};
 ghost use Rattle.bt_sound.specs.Seen.{known_seen, knowns_seen, state_seen, states_seen};
 
 use crate::known::Known;
@@ -16,7 +16,6 @@ use bt_actions::Code;
 use bt_style::Target;
 use std::alloc::{AllocError, Global};
 
-/// Variables of which one gets a number.
 fn number_put(
     alloc: Global,
     n: usize,
@@ -34,7 +33,6 @@ fn number_put(
     Ok(variables.with_number(alloc, n, range)?)
 }
 
-/// Variables of which one gets a text.
 fn text_put(
     alloc: Global,
     n: usize,
@@ -52,7 +50,6 @@ fn text_put(
     Ok(variables.with_text(alloc, n, may)?)
 }
 
-/// The state with other variables of the entry.
 fn own_put<'a>(
     alloc: Global,
     state: &State<'a>,
@@ -65,7 +62,6 @@ fn own_put<'a>(
     state.with_entry(alloc, entry)
 }
 
-/// The state after a name gets a value.
 fn value_put<'a>(
     alloc: Global,
     target: Target,
@@ -97,7 +93,6 @@ fn value_put<'a>(
     }
 }
 
-/// A quoted name on the top of the stack.
 fn name_top<'s, 'a>(stack: &'s [Known<'a>]) -> Result<(Target, &'s [Known<'a>]), Stop>
     ensures { IfOk result (λ top. knowns_seen stack.now ≡ Run (Name top.0) ∷ knowns_seen top.1.now) }
 {
@@ -118,36 +113,39 @@ pub fn assigned<'a>(alloc: Global, state: &State<'a>) -> Result<State<'a>, Stop>
     value_put(alloc, target, value, &state)
 }
 
-/// The state after a text was copied that may be so.
-fn double_case<'a>(
+/// A text of the stack that is copied, above these values.
+#[derive(Clone, Copy)]
+struct Copied<'s, 'a> {
     alloc: Global,
-    state: &State<'a>,
-    below: &[Known<'a>],
-    may: May,
-) -> Result<State<'a>, AllocError>
-    ensures { IfOk result (λ after. state_seen after
-        ≡ pushing (Text may) (holding (Text may ∷ knowns_seen below.now) (state_seen state.now))) }
-{
-    let stack = on(alloc, Known::Text(may), below)?;
-    let state = state.holding(stack)?;
-    state.pushed(alloc, Known::Text(may))
+    state: &'s State<'a>,
+    below: &'s [Known<'a>],
 }
 
-/// The state after such a text was copied, before others, if it may be so.
-fn double_before<'a>(
-    alloc: Global,
-    state: &State<'a>,
-    below: &[Known<'a>],
-    may: May,
-    may_be: bool,
-    rest: Vec<State<'a>>,
-) -> Result<Vec<State<'a>>, AllocError>
-    ensures { IfOk result (λ states. states_seen states.items ≡ when may_be
-        (pushing (Text may) (holding (Text may ∷ knowns_seen below.now) (state_seen state.now))) (states_seen rest.entry.items)) }
-{
-    let first = double_case(alloc, state, below, may)?;
-    let states = when(alloc, may_be, first, rest)?;
-    Ok(states)
+impl<'a> Copied<'_, 'a> {
+    /// The state after it was copied, if it is so.
+    fn case(&self, may: May) -> Result<State<'a>, AllocError>
+        ensures { IfOk result (λ after. state_seen after
+            ≡ doubled_case may (knowns_seen self.now.below.now) (state_seen self.now.state.now)) }
+    {
+        let stack = on(self.alloc, Known::Text(may), self.below)?;
+        let state = self.state.holding(stack)?;
+        state.pushed(self.alloc, Known::Text(may))
+    }
+
+    /// This state before others, if it may be so.
+    fn before(
+        &self,
+        may: May,
+        may_be: bool,
+        rest: Vec<State<'a>>,
+    ) -> Result<Vec<State<'a>>, AllocError>
+        ensures { IfOk result (λ states. states_seen states.items ≡ when may_be
+            (doubled_case may (knowns_seen self.now.below.now) (state_seen self.now.state.now)) (states_seen rest.entry.items)) }
+    {
+        let first = self.case(may)?;
+        let states = when(self.alloc, may_be, first, rest)?;
+        Ok(states)
+    }
 }
 
 /// The states after a text was copied: one for each case, as if it were read.
@@ -160,17 +158,15 @@ fn text_doubled<'a>(
     ensures { IfOk result (λ states. states_seen states.items
         ≡ field_states may (λ m. holding (Text m ∷ knowns_seen below.now) (state_seen state.now))) }
 {
-    let states = Vec::new(alloc);
-    let states = double_before(alloc, state, below, May::only_inked(), may.inked, states)?;
-    let states = double_before(alloc, state, below, May::only_blank(), may.blank, states)?;
-    let states = double_before(
+    let copied = Copied {
         alloc,
         state,
         below,
-        May::only_missing(),
-        may.missing,
-        states,
-    )?;
+    };
+    let states = Vec::new(alloc);
+    let states = copied.before(May::only_inked(), may.inked, states)?;
+    let states = copied.before(May::only_blank(), may.blank, states)?;
+    let states = copied.before(May::only_missing(), may.missing, states)?;
     Ok(states)
 }
 

@@ -26,7 +26,6 @@ const MOST_NAMES: usize = 1000;
 /// them. Each round widens what is known of some variable, and real styles need two or three.
 const MOST_ROUNDS: usize = 20;
 
-/// Nothing is known of an entry.
 fn unknown_entry(alloc: Global, style: &Style) -> Result<KnownEntry, AllocError>
     ensures { IfOk result (λ entry. entry ≡ unknown_entry (program_of style.now)) }
 {
@@ -38,7 +37,6 @@ fn unknown_entry(alloc: Global, style: &Style) -> Result<KnownEntry, AllocError>
     })
 }
 
-/// What is known before a step without an entry.
 fn before_execute<'a>(
     alloc: Global,
     style: &Style,
@@ -55,7 +53,6 @@ fn before_execute<'a>(
     })
 }
 
-/// What is known before a step of an entry.
 fn before_iterate<'a>(
     alloc: Global,
     style: &Style,
@@ -187,7 +184,6 @@ impl<'a> Follower<'a> {
         }
     }
 
-    /// Follows the steps of all commands in order.
     fn commands(&self, work: &mut u64, start: KnownVariables) -> Result<(), Stop>
         ensures { IfOk result (λ _. CommandsLead (program_of self.now.style.now) self.now.types.now self.now.style.now.commands start) }
     {
@@ -199,40 +195,27 @@ impl<'a> Follower<'a> {
     }
 }
 
-/// Whether a style may be accepted: no run of it gives an excluded message before an overflow, if each entry's type is
-/// one of these functions, or none.
-///
-/// `apart` names fields and variables by which states stay apart, and `globals` says what is known of the global
-/// variables before a step. Any answer is right with any of them, but some styles are accepted only with the right ones.
-/// `work` is how many elements may be followed, each from one state; comparing 32 pairs of states counts as much. What is
-/// left of it afterwards stays in it. If it isn't enough, the style isn't accepted.
-pub fn accepts(
-    alloc: Global,
-    style: &Style,
-    types: &[usize],
-    globals: Globals,
-    apart: &[Target],
-    work: &mut u64,
-) -> Result<bool, AllocError>
-    ensures { IfOk result (λ yes. IsTrue yes → Promises (program_of style.now) types.now) }
-{
-    if style.fields.len() > MOST_NAMES || !has_few_variables(style) {
-        return Ok(false);
-    }
-    let follower = Follower {
-        alloc,
-        style,
-        types,
-        apart,
-        globals,
-    };
-    let Some(start) = start(alloc, style, globals)? else {
-        return Ok(false);
-    };
-    match follower.commands(work, start) {
-        Ok(()) => Ok(true),
-        Err(Stop::Refused) => Ok(false),
-        Err(Stop::OutOfMemory) => Err(AllocError),
+impl Follower<'_> {
+    /// Whether the style may be accepted: no run of it gives an excluded message before an overflow, if each entry's type
+    /// is one of its types, or none. Any answer is right with any `apart` and `globals`, but some styles are accepted only
+    /// with the right ones.
+    ///
+    /// `work` is how many elements may be followed, each from one state; comparing 32 pairs of states counts as much. What
+    /// is left of it afterwards stays in it. If it isn't enough, the style isn't accepted.
+    pub fn accepts(&self, work: &mut u64) -> Result<bool, AllocError>
+        ensures { IfOk result (λ yes. IsTrue yes → Promises (program_of self.now.style.now) self.now.types.now) }
+    {
+        if self.style.fields.len() > MOST_NAMES || !has_few_variables(self.style) {
+            return Ok(false);
+        }
+        let Some(start) = start(self.alloc, self.style, self.globals)? else {
+            return Ok(false);
+        };
+        match self.commands(work, start) {
+            Ok(()) => Ok(true),
+            Err(Stop::Refused) => Ok(false),
+            Err(Stop::OutOfMemory) => Err(AllocError),
+        }
     }
 }
 

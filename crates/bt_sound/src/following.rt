@@ -11,8 +11,8 @@ ghost use Rattle.bt_style.specs.Tree.{Called, element_of, ops_body};
 ghost use Rattle.bt_style.specs.Program.{program_of};
 ghost use Rattle.bt_actions.specs.View.{code_seen};
 ghost use Rattle.bt_machine.specs.Eval.{code_body};
-ghost use Rattle.bt_sound.specs.Follows.{Acts, Follows, FollowsTypes, Turned};
-ghost use Rattle.bt_sound.specs.Seen.{state_seen, states_seen};
+ghost use Rattle.bt_sound.specs.Follows.{Acts, Follows, FollowsTypes};
+ghost use Rattle.bt_sound.specs.Seen.{TurnedSeen, state_seen, states_seen};
 
 use crate::globals::Globals;
 use crate::joining::{merged, widen_all};
@@ -75,7 +75,6 @@ fn spend(work: &mut u64, states: usize) -> Result<(), Stop> {
 }
 
 impl<'a> Follower<'a> {
-    /// The states after a body.
     #[cycle(following)]
     fn body(
         &self,
@@ -98,7 +97,6 @@ impl<'a> Follower<'a> {
         Ok(now)
     }
 
-    /// The states after an element.
     #[cycle(following)]
     fn element(
         &self,
@@ -201,7 +199,6 @@ impl<'a> Follower<'a> {
         }
     }
 
-    /// The states after a built-in function.
     #[cycle(following)]
     fn builtin(
         &self,
@@ -263,7 +260,6 @@ impl<'a> Follower<'a> {
         }
     }
 
-    /// The states after `if$`.
     #[cycle(following)]
     fn choose(
         &self,
@@ -290,32 +286,29 @@ impl<'a> Follower<'a> {
         Ok(after)
     }
 
-    /// One turn of a loop, from these heads.
     #[cycle(following)]
     fn turn(
         &self,
         work: &mut u64,
-        test: Code<'a>,
-        body: Code<'a>,
+        taken: &Loop<'a>,
         heads: &[State<'a>],
         depth: usize,
     ) -> Result<Turn<'a>, Stop>
-        ensures { IfOk result (λ turn. Turned (program_of self.now.style.now) self.now.types.now (code_seen test.entry)
-            (code_seen body.entry) (states_seen heads.now) (states_seen turn.back.items) (states_seen turn.ends.items)) }
+        ensures { IfOk result (λ turn. TurnedSeen (program_of self.now.style.now) self.now.types.now
+            taken.now.test taken.now.body heads.now turn.back.items turn.ends.items) }
     {
         if depth == 0 {
             return Err(Stop::Refused);
         }
         let heads = all_copied(self.alloc, heads)?;
-        let mids = self.code(work, test, heads, depth - 1)?;
+        let mids = self.code(work, taken.test, heads, depth - 1)?;
         let parts = split(self.alloc, mids.as_slice())?;
         let Parts { goes, ends } = parts;
         let goes = merged(self.alloc, goes, self.apart)?;
-        let back = self.code(work, body, goes, depth - 1)?;
+        let back = self.code(work, taken.body, goes, depth - 1)?;
         Ok(Turn { back, ends })
     }
 
-    /// The states after `while$`.
     #[cycle(following)]
     fn repeat(
         &self,
@@ -330,12 +323,11 @@ impl<'a> Follower<'a> {
             return Err(Stop::Refused);
         }
         let taken = loop_of(self.alloc, state)?;
-        let Loop { test, body, first } = taken;
-        let mut heads = all_copied(self.alloc, first.as_slice())?;
+        let mut heads = all_copied(self.alloc, taken.first.as_slice())?;
         'turns: for _ in 0..MOST_TURNS {
-            let turn = self.turn(work, test, body, heads.as_slice(), depth - 1)?;
+            let turn = self.turn(work, &taken, heads.as_slice(), depth - 1)?;
             let Turn { back, ends } = turn;
-            if is_closed(first.as_slice(), back.as_slice(), heads.as_slice()) {
+            if is_closed(taken.first.as_slice(), back.as_slice(), heads.as_slice()) {
                 return Ok(ends);
             }
             widen_all(self.alloc, back.as_slice(), &mut heads, self.apart)?;
@@ -368,7 +360,6 @@ impl<'a> Follower<'a> {
         }
     }
 
-    /// The states after `call.type$`.
     #[cycle(following)]
     fn call_type(
         &self,

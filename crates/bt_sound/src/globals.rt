@@ -44,7 +44,6 @@ pub fn unknown_variables(
     })
 }
 
-/// The value of a global number when a run begins.
 fn first_number(name: &[u8]) -> i32
     ensures { result ≡ first_number name.now }
 {
@@ -67,7 +66,6 @@ fn first_ranges(alloc: Global, names: &[Bytes]) -> Result<Vec<Range>, AllocError
     Ok(ranges)
 }
 
-/// The global variables when a run begins.
 fn first_known(alloc: Global, style: &Style) -> Result<KnownVariables, AllocError>
     ensures { IfOk result (λ known. known ≡ first_known (program_of style.now)) }
 {

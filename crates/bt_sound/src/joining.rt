@@ -82,7 +82,6 @@ fn joined_stack<'a>(
     Ok(joined)
 }
 
-/// What both states say.
 fn joined<'a>(
     alloc: Global,
     ours: &State<'a>,
@@ -99,7 +98,6 @@ fn joined<'a>(
     })
 }
 
-/// Whether the values of a text tell two states apart.
 fn texts_differ(ours: &[May], theirs: &[May], n: usize) -> bool {
     match (ours.get(n), theirs.get(n)) {
         (Some(ours), Some(theirs)) => ours.certain() != theirs.certain(),
@@ -107,7 +105,6 @@ fn texts_differ(ours: &[May], theirs: &[May], n: usize) -> bool {
     }
 }
 
-/// Whether the values of a number tell two states apart.
 fn numbers_differ(ours: &[Range], theirs: &[Range], n: usize) -> bool {
     match (ours.get(n), theirs.get(n)) {
         (Some(ours), Some(theirs)) => ours.sign() != theirs.sign(),

@@ -1,4 +1,4 @@
-//! What it means that a style is sound, and a checker whose yes implies it (`accepts`).
+//! What it means that a style is sound, and a checker whose yes implies it (`is_sound`).
 #![tactic(auto)]
 
 ghost use Rattle.bt_style.specs.Program.{Program};
@@ -24,8 +24,6 @@ mod tops;
 mod transfer;
 mod within;
 
-pub use commands::accepts;
-pub use globals::Globals;
 pub use search::is_sound;
 
 /// Each rule is right: a body that it checks gives no excluded message before an overflow.

@@ -32,14 +32,12 @@ use bt_style::{Builtin, Function, Op, Style, Target};
 use bt_text::{Bytes, is_white};
 use std::alloc::{AllocError, Global};
 
-/// Whether a text is white space only.
 fn is_blank(text: &[u8]) -> bool
     ensures { result ≡ list_all is_white text.now }
 {
     text.iter().all(|byte| is_white(*byte))
 }
 
-/// What is known of a literal text.
 fn literal(text: &Bytes) -> May
     ensures { result ≡ literal text.now }
 {
@@ -88,7 +86,6 @@ pub fn all_copied<'a>(alloc: Global, states: &[State<'a>]) -> Result<Vec<State<'
     Ok(copies)
 }
 
-/// A copy of a state, if something is so.
 fn some_if<'a>(alloc: Global, is_so: bool, state: &State<'a>) -> Result<Vec<State<'a>>, AllocError>
     ensures { IfOk result (λ states. states_seen states.items ≡ some_if is_so (state_seen state.now)) }
 {
@@ -152,7 +149,6 @@ fn basic<'a>(alloc: Global, builtin: Builtin, state: &State<'a>) -> Result<Vec<S
     Ok(states)
 }
 
-/// The states after `:=`.
 fn after_assignment<'a>(alloc: Global, state: &State<'a>) -> Result<Vec<State<'a>>, Stop>
     ensures { IfOk result (λ after. Makes (Called (targets.Builtin builtins.Assign)) (state_seen state.now) (states_seen after.items)) }
 {

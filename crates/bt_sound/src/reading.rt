@@ -3,8 +3,8 @@
 //! A value that is read is told apart at once: there is a state for each case, with the case noted where the value is kept.
 
 ghost use Rattle.std.specs.Prelude.{◌≡◌, ◌<◌, IfOk, Some, length, slice_index_or};
-ghost use Rattle.bt_sound.specs.Known.{May, Number, Range, Text};
-ghost use Rattle.bt_sound.specs.Reading.{entry_text_read, field_known, field_read, global_number_read, global_text_read, number_known, of_globals, of_own, of_variables, own_number_read, own_text_read, pushing, text_known, when};
+ghost use Rattle.bt_sound.specs.Known.{May, Range};
+ghost use Rattle.bt_sound.specs.Reading.{entry_text_read, field_case, field_read, global_number_case, global_number_read, global_text_case, global_text_read, own_number_case, own_number_read, own_text_case, own_text_read, when};
 ghost use Rattle.bt_sound.specs.Seen.{state_seen, states_seen};
 
 use crate::known::Known;
@@ -42,7 +42,6 @@ pub fn entry_of<'s, 'a>(state: &'s State<'a>) -> Result<&'s KnownEntry, Stop>
     }
 }
 
-/// A text of a list of them.
 fn text_at(texts: &[May], n: usize) -> Result<May, Stop>
     ensures within { IfOk result (λ may. n < length texts.now) }
     ensures value { IfOk result (λ may. (default : May) → slice_index_or texts.now n default ≡ may) }
@@ -54,7 +53,6 @@ fn text_at(texts: &[May], n: usize) -> Result<May, Stop>
     }
 }
 
-/// A number of a list of them.
 fn number_at(numbers: &[Range], n: usize) -> Result<Range, Stop>
     ensures within { IfOk result (λ range. n < length numbers.now) }
     ensures value { IfOk result (λ range. (default : Range) → slice_index_or numbers.now n default ≡ range) }
@@ -66,196 +64,156 @@ fn number_at(numbers: &[Range], n: usize) -> Result<Range, Stop>
     }
 }
 
-/// The state after a field was read whose value may be so.
-fn field_case<'a>(
+/// A read of the field or variable of this number. Each method `.._case` gives the state after it, if the value is so; the
+/// method without `case` puts that state before others, if the value may be so.
+#[derive(Clone, Copy)]
+struct Read<'s, 'a> {
     alloc: Global,
-    state: &State<'a>,
-    entry: &KnownEntry,
+    state: &'s State<'a>,
     n: usize,
-    may: May,
-) -> Result<State<'a>, AllocError>
-    requires { n < length entry.now.fields }
-    ensures { IfOk result (λ after. state_seen after ≡ pushing (Text may) (of_own (field_known n may entry.now) (state_seen state.now))) }
-{
-    let entry = entry.with_field(alloc, n, may)?;
-    let state = state.with_entry(alloc, entry)?;
-    state.pushed(alloc, Known::Text(may))
 }
 
-/// The state after such a field was read, before others, if its value may be so.
-fn field_before<'a>(
-    alloc: Global,
-    state: &State<'a>,
-    entry: &KnownEntry,
-    n: usize,
-    may: May,
-    may_be: bool,
-    rest: Vec<State<'a>>,
-) -> Result<Vec<State<'a>>, AllocError>
-    requires { n < length entry.now.fields }
-    ensures { IfOk result (λ states. states_seen states.items ≡ when may_be
-        (pushing (Text may) (of_own (field_known n may entry.now) (state_seen state.now))) (states_seen rest.entry.items)) }
-{
-    if !may_be {
-        return Ok(rest);
+impl<'a> Read<'_, 'a> {
+    fn field_case(&self, entry: &KnownEntry, may: May) -> Result<State<'a>, AllocError>
+        requires { self.now.n < length entry.now.fields }
+        ensures { IfOk result (λ after. state_seen after
+            ≡ field_case self.now.n may entry.now (state_seen self.now.state.now)) }
+    {
+        let entry = entry.with_field(self.alloc, self.n, may)?;
+        let state = self.state.with_entry(self.alloc, entry)?;
+        state.pushed(self.alloc, Known::Text(may))
     }
-    let first = field_case(alloc, state, entry, n, may)?;
-    let states = when(alloc, may_be, first, rest)?;
-    Ok(states)
-}
 
-/// The state after a text variable of the entry was read whose value may be so.
-fn own_text_case<'a>(
-    alloc: Global,
-    state: &State<'a>,
-    entry: &KnownEntry,
-    n: usize,
-    may: May,
-) -> Result<State<'a>, AllocError>
-    requires { n < length entry.now.variables.texts }
-    ensures { IfOk result (λ after. state_seen after
-        ≡ pushing (Text may) (of_variables entry.now (state_seen state.now) (text_known n may entry.now.variables))) }
-{
-    let variables = entry.variables.with_text(alloc, n, may)?;
-    let entry = entry.with_variables(alloc, variables)?;
-    let state = state.with_entry(alloc, entry)?;
-    state.pushed(alloc, Known::Text(may))
-}
-
-/// The state after such a text variable was read, before others, if its value may be so.
-fn own_text_before<'a>(
-    alloc: Global,
-    state: &State<'a>,
-    entry: &KnownEntry,
-    n: usize,
-    may: May,
-    may_be: bool,
-    rest: Vec<State<'a>>,
-) -> Result<Vec<State<'a>>, AllocError>
-    requires { n < length entry.now.variables.texts }
-    ensures { IfOk result (λ states. states_seen states.items ≡ when may_be
-        (pushing (Text may) (of_variables entry.now (state_seen state.now) (text_known n may entry.now.variables))) (states_seen rest.entry.items)) }
-{
-    if !may_be {
-        return Ok(rest);
+    fn field(
+        &self,
+        entry: &KnownEntry,
+        may: May,
+        may_be: bool,
+        rest: Vec<State<'a>>,
+    ) -> Result<Vec<State<'a>>, AllocError>
+        requires { self.now.n < length entry.now.fields }
+        ensures { IfOk result (λ states. states_seen states.items ≡ when may_be
+            (field_case self.now.n may entry.now (state_seen self.now.state.now)) (states_seen rest.entry.items)) }
+    {
+        if !may_be {
+            return Ok(rest);
+        }
+        let first = self.field_case(entry, may)?;
+        let states = when(self.alloc, may_be, first, rest)?;
+        Ok(states)
     }
-    let first = own_text_case(alloc, state, entry, n, may)?;
-    let states = when(alloc, may_be, first, rest)?;
-    Ok(states)
-}
 
-/// The state after an integer variable of the entry was read whose value is in this range.
-fn own_number_case<'a>(
-    alloc: Global,
-    state: &State<'a>,
-    entry: &KnownEntry,
-    n: usize,
-    range: Range,
-) -> Result<State<'a>, AllocError>
-    requires { n < length entry.now.variables.numbers }
-    ensures { IfOk result (λ after. state_seen after
-        ≡ pushing (Number range) (of_variables entry.now (state_seen state.now) (number_known n range entry.now.variables))) }
-{
-    let variables = entry.variables.with_number(alloc, n, range)?;
-    let entry = entry.with_variables(alloc, variables)?;
-    let state = state.with_entry(alloc, entry)?;
-    state.pushed(alloc, Known::Number(range))
-}
-
-/// The state after such an integer variable was read, before others, if there are such numbers.
-fn own_number_before<'a>(
-    alloc: Global,
-    state: &State<'a>,
-    entry: &KnownEntry,
-    n: usize,
-    range: Range,
-    may_be: bool,
-    rest: Vec<State<'a>>,
-) -> Result<Vec<State<'a>>, AllocError>
-    requires { n < length entry.now.variables.numbers }
-    ensures { IfOk result (λ states. states_seen states.items ≡ when may_be
-        (pushing (Number range) (of_variables entry.now (state_seen state.now) (number_known n range entry.now.variables))) (states_seen rest.entry.items)) }
-{
-    if !may_be {
-        return Ok(rest);
+    fn own_text_case(&self, entry: &KnownEntry, may: May) -> Result<State<'a>, AllocError>
+        requires { self.now.n < length entry.now.variables.texts }
+        ensures { IfOk result (λ after. state_seen after ≡ own_text_case self.now.n may entry.now (state_seen self.now.state.now)) }
+    {
+        let variables = entry.variables.with_text(self.alloc, self.n, may)?;
+        let entry = entry.with_variables(self.alloc, variables)?;
+        let state = self.state.with_entry(self.alloc, entry)?;
+        state.pushed(self.alloc, Known::Text(may))
     }
-    let first = own_number_case(alloc, state, entry, n, range)?;
-    let states = when(alloc, may_be, first, rest)?;
-    Ok(states)
-}
 
-/// The state after a global text variable was read whose value may be so.
-fn global_text_case<'a>(
-    alloc: Global,
-    state: &State<'a>,
-    n: usize,
-    may: May,
-) -> Result<State<'a>, AllocError>
-    requires { n < length state.now.globals.texts }
-    ensures { IfOk result (λ after. state_seen after
-        ≡ pushing (Text may) (of_globals (text_known n may state.now.globals) (state_seen state.now))) }
-{
-    let globals = state.globals.with_text(alloc, n, may)?;
-    let state = state.with_globals(alloc, globals)?;
-    state.pushed(alloc, Known::Text(may))
-}
-
-/// The state after such a text variable was read, before others, if its value may be so.
-fn global_text_before<'a>(
-    alloc: Global,
-    state: &State<'a>,
-    n: usize,
-    may: May,
-    may_be: bool,
-    rest: Vec<State<'a>>,
-) -> Result<Vec<State<'a>>, AllocError>
-    requires { n < length state.now.globals.texts }
-    ensures { IfOk result (λ states. states_seen states.items ≡ when may_be
-        (pushing (Text may) (of_globals (text_known n may state.now.globals) (state_seen state.now))) (states_seen rest.entry.items)) }
-{
-    if !may_be {
-        return Ok(rest);
+    fn own_text(
+        &self,
+        entry: &KnownEntry,
+        may: May,
+        may_be: bool,
+        rest: Vec<State<'a>>,
+    ) -> Result<Vec<State<'a>>, AllocError>
+        requires { self.now.n < length entry.now.variables.texts }
+        ensures { IfOk result (λ states. states_seen states.items ≡ when may_be
+            (own_text_case self.now.n may entry.now (state_seen self.now.state.now)) (states_seen rest.entry.items)) }
+    {
+        if !may_be {
+            return Ok(rest);
+        }
+        let first = self.own_text_case(entry, may)?;
+        let states = when(self.alloc, may_be, first, rest)?;
+        Ok(states)
     }
-    let first = global_text_case(alloc, state, n, may)?;
-    let states = when(alloc, may_be, first, rest)?;
-    Ok(states)
-}
 
-/// The state after a global integer variable was read whose value is in this range.
-fn global_number_case<'a>(
-    alloc: Global,
-    state: &State<'a>,
-    n: usize,
-    range: Range,
-) -> Result<State<'a>, AllocError>
-    requires { n < length state.now.globals.numbers }
-    ensures { IfOk result (λ after. state_seen after
-        ≡ pushing (Number range) (of_globals (number_known n range state.now.globals) (state_seen state.now))) }
-{
-    let globals = state.globals.with_number(alloc, n, range)?;
-    let state = state.with_globals(alloc, globals)?;
-    state.pushed(alloc, Known::Number(range))
-}
-
-/// The state after such an integer variable was read, before others, if there are such numbers.
-fn global_number_before<'a>(
-    alloc: Global,
-    state: &State<'a>,
-    n: usize,
-    range: Range,
-    may_be: bool,
-    rest: Vec<State<'a>>,
-) -> Result<Vec<State<'a>>, AllocError>
-    requires { n < length state.now.globals.numbers }
-    ensures { IfOk result (λ states. states_seen states.items ≡ when may_be
-        (pushing (Number range) (of_globals (number_known n range state.now.globals) (state_seen state.now))) (states_seen rest.entry.items)) }
-{
-    if !may_be {
-        return Ok(rest);
+    fn own_number_case(&self, entry: &KnownEntry, range: Range) -> Result<State<'a>, AllocError>
+        requires { self.now.n < length entry.now.variables.numbers }
+        ensures { IfOk result (λ after. state_seen after ≡ own_number_case self.now.n range entry.now (state_seen self.now.state.now)) }
+    {
+        let variables = entry.variables.with_number(self.alloc, self.n, range)?;
+        let entry = entry.with_variables(self.alloc, variables)?;
+        let state = self.state.with_entry(self.alloc, entry)?;
+        state.pushed(self.alloc, Known::Number(range))
     }
-    let first = global_number_case(alloc, state, n, range)?;
-    let states = when(alloc, may_be, first, rest)?;
-    Ok(states)
+
+    fn own_number(
+        &self,
+        entry: &KnownEntry,
+        range: Range,
+        may_be: bool,
+        rest: Vec<State<'a>>,
+    ) -> Result<Vec<State<'a>>, AllocError>
+        requires { self.now.n < length entry.now.variables.numbers }
+        ensures { IfOk result (λ states. states_seen states.items ≡ when may_be
+            (own_number_case self.now.n range entry.now (state_seen self.now.state.now)) (states_seen rest.entry.items)) }
+    {
+        if !may_be {
+            return Ok(rest);
+        }
+        let first = self.own_number_case(entry, range)?;
+        let states = when(self.alloc, may_be, first, rest)?;
+        Ok(states)
+    }
+
+    fn global_text_case(&self, may: May) -> Result<State<'a>, AllocError>
+        requires { self.now.n < length self.now.state.now.globals.texts }
+        ensures { IfOk result (λ after. state_seen after ≡ global_text_case self.now.n may (state_seen self.now.state.now)) }
+    {
+        let globals = self.state.globals.with_text(self.alloc, self.n, may)?;
+        let state = self.state.with_globals(self.alloc, globals)?;
+        state.pushed(self.alloc, Known::Text(may))
+    }
+
+    fn global_text(
+        &self,
+        may: May,
+        may_be: bool,
+        rest: Vec<State<'a>>,
+    ) -> Result<Vec<State<'a>>, AllocError>
+        requires { self.now.n < length self.now.state.now.globals.texts }
+        ensures { IfOk result (λ states. states_seen states.items ≡ when may_be
+            (global_text_case self.now.n may (state_seen self.now.state.now)) (states_seen rest.entry.items)) }
+    {
+        if !may_be {
+            return Ok(rest);
+        }
+        let first = self.global_text_case(may)?;
+        let states = when(self.alloc, may_be, first, rest)?;
+        Ok(states)
+    }
+
+    fn global_number_case(&self, range: Range) -> Result<State<'a>, AllocError>
+        requires { self.now.n < length self.now.state.now.globals.numbers }
+        ensures { IfOk result (λ after. state_seen after ≡ global_number_case self.now.n range (state_seen self.now.state.now)) }
+    {
+        let globals = self.state.globals.with_number(self.alloc, self.n, range)?;
+        let state = self.state.with_globals(self.alloc, globals)?;
+        state.pushed(self.alloc, Known::Number(range))
+    }
+
+    fn global_number(
+        &self,
+        range: Range,
+        may_be: bool,
+        rest: Vec<State<'a>>,
+    ) -> Result<Vec<State<'a>>, AllocError>
+        requires { self.now.n < length self.now.state.now.globals.numbers }
+        ensures { IfOk result (λ states. states_seen states.items ≡ when may_be
+            (global_number_case self.now.n range (state_seen self.now.state.now)) (states_seen rest.entry.items)) }
+    {
+        if !may_be {
+            return Ok(rest);
+        }
+        let first = self.global_number_case(range)?;
+        let states = when(self.alloc, may_be, first, rest)?;
+        Ok(states)
+    }
 }
 
 /// The states after a field was read.
@@ -264,18 +222,11 @@ pub fn field_read<'a>(alloc: Global, n: usize, state: &State<'a>) -> Result<Vec<
 {
     let entry = entry_of(state)?;
     let may = text_at(entry.fields.as_slice(), n)?;
+    let read = Read { alloc, state, n };
     let states = Vec::new(alloc);
-    let states = field_before(alloc, state, entry, n, May::only_inked(), may.inked, states)?;
-    let states = field_before(alloc, state, entry, n, May::only_blank(), may.blank, states)?;
-    let states = field_before(
-        alloc,
-        state,
-        entry,
-        n,
-        May::only_missing(),
-        may.missing,
-        states,
-    )?;
+    let states = read.field(entry, May::only_inked(), may.inked, states)?;
+    let states = read.field(entry, May::only_blank(), may.blank, states)?;
+    let states = read.field(entry, May::only_missing(), may.missing, states)?;
     Ok(states)
 }
 
@@ -285,9 +236,10 @@ pub fn own_text_read<'a>(alloc: Global, n: usize, state: &State<'a>) -> Result<V
 {
     let entry = entry_of(state)?;
     let may = text_at(entry.variables.texts.as_slice(), n)?;
+    let read = Read { alloc, state, n };
     let states = Vec::new(alloc);
-    let states = own_text_before(alloc, state, entry, n, May::only_inked(), may.inked, states)?;
-    let states = own_text_before(alloc, state, entry, n, May::only_blank(), may.blank, states)?;
+    let states = read.own_text(entry, May::only_inked(), may.inked, states)?;
+    let states = read.own_text(entry, May::only_blank(), may.blank, states)?;
     Ok(states)
 }
 
@@ -303,9 +255,10 @@ pub fn own_number_read<'a>(
     let range = number_at(entry.variables.numbers.as_slice(), n)?;
     let upto = range.upto_zero();
     let above = range.above_zero();
+    let read = Read { alloc, state, n };
     let states = Vec::new(alloc);
-    let states = own_number_before(alloc, state, entry, n, above, above.is_open(), states)?;
-    let states = own_number_before(alloc, state, entry, n, upto, upto.is_open(), states)?;
+    let states = read.own_number(entry, above, above.is_open(), states)?;
+    let states = read.own_number(entry, upto, upto.is_open(), states)?;
     Ok(states)
 }
 
@@ -318,9 +271,10 @@ pub fn global_text_read<'a>(
     ensures { IfOk result (λ states. global_text_read n (state_seen state.now) ≡ states_seen states.items) }
 {
     let may = text_at(state.globals.texts.as_slice(), n)?;
+    let read = Read { alloc, state, n };
     let states = Vec::new(alloc);
-    let states = global_text_before(alloc, state, n, May::only_inked(), may.inked, states)?;
-    let states = global_text_before(alloc, state, n, May::only_blank(), may.blank, states)?;
+    let states = read.global_text(May::only_inked(), may.inked, states)?;
+    let states = read.global_text(May::only_blank(), may.blank, states)?;
     Ok(states)
 }
 
@@ -335,9 +289,10 @@ pub fn global_number_read<'a>(
     let range = number_at(state.globals.numbers.as_slice(), n)?;
     let upto = range.upto_zero();
     let above = range.above_zero();
+    let read = Read { alloc, state, n };
     let states = Vec::new(alloc);
-    let states = global_number_before(alloc, state, n, above, above.is_open(), states)?;
-    let states = global_number_before(alloc, state, n, upto, upto.is_open(), states)?;
+    let states = read.global_number(above, above.is_open(), states)?;
+    let states = read.global_number(upto, upto.is_open(), states)?;
     Ok(states)
 }
 

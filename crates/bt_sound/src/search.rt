@@ -6,7 +6,7 @@ ghost use Rattle.std.specs.Prelude.{IfOk, IsTrue};
 ghost use Rattle.bt_style.specs.Program.{program_of};
 ghost use Rattle.bt_sound.specs.Sound.{Promises};
 
-use crate::commands::accepts;
+use crate::following::Follower;
 use crate::globals::Globals;
 use bt_style::{Style, Target};
 use std::alloc::{AllocError, Global};
@@ -32,23 +32,25 @@ fn candidates(alloc: Global, style: &Style) -> Result<Vec<Target>, AllocError> {
     Ok(names)
 }
 
-/// Whether the style is accepted with one of these names, by which states stay apart.
-fn accepts_with_one(
-    alloc: Global,
-    style: &Style,
-    types: &[usize],
-    globals: Globals,
-    names: &[Target],
-    work: &mut u64,
-) -> Result<bool, AllocError>
-    ensures { IfOk result (λ yes. IsTrue yes → Promises (program_of style.now) types.now) }
-{
-    for name in names {
-        if accepts(alloc, style, types, globals, &[*name], work)? {
-            return Ok(true);
+impl Follower<'_> {
+    /// Whether the style is accepted with one of these names, by which states stay apart.
+    fn accepts_with_one(&self, names: &[Target], work: &mut u64) -> Result<bool, AllocError>
+        ensures { IfOk result (λ yes. IsTrue yes → Promises (program_of self.now.style.now) self.now.types.now) }
+    {
+        for name in names {
+            let follower = Follower {
+                alloc: self.alloc,
+                style: self.style,
+                types: self.types,
+                apart: &[*name],
+                globals: self.globals,
+            };
+            if follower.accepts(work)? {
+                return Ok(true);
+            }
         }
+        Ok(false)
     }
-    Ok(false)
 }
 
 /// Whether a style is sound: no run of it gives an excluded message before an overflow, if each entry's type is one of
@@ -64,29 +66,29 @@ pub fn is_sound(
 ) -> Result<bool, AllocError>
     ensures { IfOk result (λ yes. IsTrue yes → Promises (program_of style.now) types.now) }
 {
-    if accepts(alloc, style, types, Globals::Forgotten, &[], &mut work)? {
+    let forgetful = Follower {
+        alloc,
+        style,
+        types,
+        apart: &[],
+        globals: Globals::Forgotten,
+    };
+    if forgetful.accepts(&mut work)? {
         return Ok(true);
     }
-    if accepts(alloc, style, types, Globals::Tracked, &[], &mut work)? {
+    let tracking = Follower {
+        alloc,
+        style,
+        types,
+        apart: &[],
+        globals: Globals::Tracked,
+    };
+    if tracking.accepts(&mut work)? {
         return Ok(true);
     }
     let names = candidates(alloc, style)?;
-    if accepts_with_one(
-        alloc,
-        style,
-        types,
-        Globals::Forgotten,
-        names.as_slice(),
-        &mut work,
-    )? {
+    if forgetful.accepts_with_one(names.as_slice(), &mut work)? {
         return Ok(true);
     }
-    accepts_with_one(
-        alloc,
-        style,
-        types,
-        Globals::Tracked,
-        names.as_slice(),
-        &mut work,
-    )
+    tracking.accepts_with_one(names.as_slice(), &mut work)
 }

@@ -12,7 +12,6 @@ use crate::state::on;
 use bt_style::Builtin;
 use std::alloc::{AllocError, Global};
 
-/// A number on the top of the stack, and what is below it.
 fn number_top<'s, 'a>(stack: &'s [Known<'a>]) -> Option<(Range, &'s [Known<'a>])>
     ensures { option_map (λ top. (top.0, knowns_seen top.1.now)) result ≡ number_top (knowns_seen stack.now) }
 {
@@ -61,7 +60,6 @@ fn text_on<'a>(alloc: Global, below: &[Known<'a>]) -> Result<Option<Vec<Known<'a
     Ok(Some(on(alloc, Known::Text(May::any_text()), below)?))
 }
 
-/// Any value on the top.
 fn any_top<'s, 'a>(stack: &'s [Known<'a>]) -> Option<(Known<'a>, &'s [Known<'a>])>
     ensures { option_map (λ top. (known_seen top.0, knowns_seen top.1.now)) result ≡ any_top (knowns_seen stack.now) }
 {
@@ -69,7 +67,6 @@ fn any_top<'s, 'a>(stack: &'s [Known<'a>]) -> Option<(Known<'a>, &'s [Known<'a>]
     Some((*top, below))
 }
 
-/// `>`.
 fn greater<'a>(alloc: Global, stack: &[Known<'a>]) -> Result<Option<Vec<Known<'a>>>, AllocError>
     ensures { IfOk result (λ after. option_map (λ stack. knowns_seen stack.items) after ≡ stack_after builtin.Greater (knowns_seen stack.now)) }
 {
@@ -82,7 +79,6 @@ fn greater<'a>(alloc: Global, stack: &[Known<'a>]) -> Result<Option<Vec<Known<'a
     number_on(alloc, upper.less(lower), below)
 }
 
-/// `<`.
 fn less<'a>(alloc: Global, stack: &[Known<'a>]) -> Result<Option<Vec<Known<'a>>>, AllocError>
     ensures { IfOk result (λ after. option_map (λ stack. knowns_seen stack.items) after ≡ stack_after builtin.Less (knowns_seen stack.now)) }
 {
@@ -95,7 +91,6 @@ fn less<'a>(alloc: Global, stack: &[Known<'a>]) -> Result<Option<Vec<Known<'a>>>
     number_on(alloc, lower.less(upper), below)
 }
 
-/// `+`.
 fn plus<'a>(alloc: Global, stack: &[Known<'a>]) -> Result<Option<Vec<Known<'a>>>, AllocError>
     ensures { IfOk result (λ after. option_map (λ stack. knowns_seen stack.items) after ≡ stack_after builtin.Plus (knowns_seen stack.now)) }
 {
@@ -108,7 +103,6 @@ fn plus<'a>(alloc: Global, stack: &[Known<'a>]) -> Result<Option<Vec<Known<'a>>>
     number_on(alloc, lower.sum(upper), below)
 }
 
-/// `-`.
 fn minus<'a>(alloc: Global, stack: &[Known<'a>]) -> Result<Option<Vec<Known<'a>>>, AllocError>
     ensures { IfOk result (λ after. option_map (λ stack. knowns_seen stack.items) after ≡ stack_after builtin.Minus (knowns_seen stack.now)) }
 {
@@ -134,7 +128,6 @@ fn join<'a>(alloc: Global, stack: &[Known<'a>]) -> Result<Option<Vec<Known<'a>>>
     Ok(Some(on(alloc, Known::Text(lower.then(upper)), below)?))
 }
 
-/// `change.case$`.
 fn change_case<'a>(alloc: Global, stack: &[Known<'a>]) -> Result<Option<Vec<Known<'a>>>, AllocError>
     ensures { IfOk result (λ after. option_map (λ stack. knowns_seen stack.items) after ≡ stack_after builtin.ChangeCase (knowns_seen stack.now)) }
 {
@@ -173,7 +166,6 @@ fn number_to_text<'a>(
     text_on(alloc, below)
 }
 
-/// `num.names$`.
 fn names_counted<'a>(
     alloc: Global,
     stack: &[Known<'a>],
@@ -196,7 +188,6 @@ fn length<'a>(alloc: Global, stack: &[Known<'a>]) -> Result<Option<Vec<Known<'a>
     number_on(alloc, Range::at_least(0), below)
 }
 
-/// `width$`.
 fn width<'a>(alloc: Global, stack: &[Known<'a>]) -> Result<Option<Vec<Known<'a>>>, AllocError>
     ensures { IfOk result (λ after. option_map (λ stack. knowns_seen stack.items) after ≡ stack_after builtin.Width (knowns_seen stack.now)) }
 {
@@ -206,7 +197,6 @@ fn width<'a>(alloc: Global, stack: &[Known<'a>]) -> Result<Option<Vec<Known<'a>>
     number_on(alloc, Range::any(), below)
 }
 
-/// `empty$`.
 fn emptiness<'a>(alloc: Global, stack: &[Known<'a>]) -> Result<Option<Vec<Known<'a>>>, AllocError>
     ensures { IfOk result (λ after. option_map (λ stack. knowns_seen stack.items) after ≡ stack_after builtin.Empty (knowns_seen stack.now)) }
 {
@@ -216,7 +206,6 @@ fn emptiness<'a>(alloc: Global, stack: &[Known<'a>]) -> Result<Option<Vec<Known<
     number_on(alloc, field.empty_range(), below)
 }
 
-/// `missing$`.
 fn missing<'a>(alloc: Global, stack: &[Known<'a>]) -> Result<Option<Vec<Known<'a>>>, AllocError>
     ensures { IfOk result (λ after. option_map (λ stack. knowns_seen stack.items) after ≡ stack_after builtin.Missing (knowns_seen stack.now)) }
 {
@@ -226,7 +215,6 @@ fn missing<'a>(alloc: Global, stack: &[Known<'a>]) -> Result<Option<Vec<Known<'a
     number_on(alloc, field.missing_range(), below)
 }
 
-/// `format.name$`.
 fn format_name<'a>(alloc: Global, stack: &[Known<'a>]) -> Result<Option<Vec<Known<'a>>>, AllocError>
     ensures { IfOk result (λ after. option_map (λ stack. knowns_seen stack.items) after ≡ stack_after builtin.FormatName (knowns_seen stack.now)) }
 {
@@ -242,7 +230,6 @@ fn format_name<'a>(alloc: Global, stack: &[Known<'a>]) -> Result<Option<Vec<Know
     text_on(alloc, below)
 }
 
-/// `substring$`.
 fn substring<'a>(alloc: Global, stack: &[Known<'a>]) -> Result<Option<Vec<Known<'a>>>, AllocError>
     ensures { IfOk result (λ after. option_map (λ stack. knowns_seen stack.items) after ≡ stack_after builtin.Substring (knowns_seen stack.now)) }
 {
@@ -258,7 +245,6 @@ fn substring<'a>(alloc: Global, stack: &[Known<'a>]) -> Result<Option<Vec<Known<
     text_on(alloc, below)
 }
 
-/// `text.prefix$`.
 fn text_prefix<'a>(alloc: Global, stack: &[Known<'a>]) -> Result<Option<Vec<Known<'a>>>, AllocError>
     ensures { IfOk result (λ after. option_map (λ stack. knowns_seen stack.items) after ≡ stack_after builtin.TextPrefix (knowns_seen stack.now)) }
 {
@@ -271,7 +257,6 @@ fn text_prefix<'a>(alloc: Global, stack: &[Known<'a>]) -> Result<Option<Vec<Know
     text_on(alloc, below)
 }
 
-/// `duplicate$`.
 fn duplicate<'a>(alloc: Global, stack: &[Known<'a>]) -> Result<Option<Vec<Known<'a>>>, AllocError>
     ensures { IfOk result (λ after. option_map (λ stack. knowns_seen stack.items) after ≡ stack_after builtin.Duplicate (knowns_seen stack.now)) }
 {
@@ -301,7 +286,6 @@ fn text_taken<'a>(alloc: Global, stack: &[Known<'a>]) -> Result<Option<Vec<Known
     Ok(Some(Vec::from_slice(alloc, below)?))
 }
 
-/// `swap$`.
 fn swap<'a>(alloc: Global, stack: &[Known<'a>]) -> Result<Option<Vec<Known<'a>>>, AllocError>
     ensures { IfOk result (λ after. option_map (λ stack. knowns_seen stack.items) after ≡ stack_after builtin.Swap (knowns_seen stack.now)) }
 {
@@ -326,7 +310,6 @@ fn are_alike(upper: &Known, lower: &Known) -> bool
     }
 }
 
-/// `=`.
 fn equals<'a>(alloc: Global, stack: &[Known<'a>]) -> Result<Option<Vec<Known<'a>>>, AllocError>
     ensures { IfOk result (λ after. option_map (λ stack. knowns_seen stack.items) after ≡ stack_after builtin.Equals (knowns_seen stack.now)) }
 {

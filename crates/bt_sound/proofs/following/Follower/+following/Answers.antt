@@ -94,8 +94,8 @@ turn-returns t c =
     let mids = c.in_ok-mids.mids.items in
     let goes = states_seen c.in_ok-parts.parts.goes.items in
     let ends = states_seen c.in_ok-parts.parts.ends.items in
-    turned p types (code_seen c.args.test) (code_seen c.args.body) (states_seen c.args.heads.now) (states_seen mids) goes (states_seen c.in_ok-goes.goes.items) (states_seen c.in_ok-back.back.items) ends
-    (subst (λ ss. Follows p types (code_body (code_seen c.args.test)) ss (states_seen mids)) c.in_ok-heads.ensures c.in_ok-mids.ensures)
+    turned p types (code_seen c.args.taken.now.test) (code_seen c.args.taken.now.body) (states_seen c.args.heads.now) (states_seen mids) goes (states_seen c.in_ok-goes.goes.items) (states_seen c.in_ok-back.back.items) ends
+    (subst (λ ss. Follows p types (code_body (code_seen c.args.taken.now.test)) ss (states_seen mids)) c.in_ok-heads.ensures c.in_ok-mids.ensures)
     (subst (λ l. Splits (states_seen l) goes ends) c.as_slice.ensures.value c.in_ok-parts.ensures)
     c.in_ok-goes.ensures c.in_ok-back.ensures
 
