@@ -2,7 +2,7 @@
 //! passes what they answer in environment variables, and reads the program's questions from a file that one of these
 //! variables names.
 
-use crate::reading::read;
+use bt_programs::read;
 use bt_text::Bytes;
 use indexmap::IndexMap;
 use std::alloc::{AllocError, Global};

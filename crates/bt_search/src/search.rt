@@ -2,10 +2,10 @@
 //! them, and, for `.aux` files, beside the job's own. All names are looked up, also those after one that is missing, so that
 //! `kpsewhich` is asked once.
 
-use crate::reading::{folder_of, read};
 use crate::script::Script;
 use bt_front::names_of;
 use bt_job::File;
+use bt_programs::{folder_of, read};
 use bt_text::{Bytes, Sequence, Shared};
 use indexmap::IndexSet;
 use std::alloc::{AllocError, Global};

@@ -5,13 +5,12 @@
 //! second name, which would keep the old text; somebody else's file, whose owner would change; and a file in a folder in
 //! which nothing can be created.
 
-use bt_search::folder_of;
+use bt_programs::folder_of;
 use std::alloc::{AllocError, Global};
 use std::fs::{self, File, OpenOptions};
 use std::io::{ErrorKind, Write};
 use std::os::unix::fs::MetadataExt;
 
-/// Whether a file can be opened for writing. If `create` is true, a missing one is created.
 fn opens(rt: &HostRuntime, path: &str, create: bool) -> bool {
     OpenOptions::new()
         .write(true)
@@ -83,7 +82,6 @@ impl Drop for Draft<'_> {
 const NAMES: usize = 100;
 
 impl<'a> Draft<'a> {
-    /// Makes a draft; none if no file can be made in the folder.
     fn new(
         alloc: Global,
         rt: &'a HostRuntime,
@@ -109,7 +107,6 @@ impl<'a> Draft<'a> {
         Ok(None)
     }
 
-    /// Whether the draft has its file's owner and group, so that it may replace the file.
     fn has_same_owner(&self) -> bool {
         match (
             self.file.metadata(),

@@ -53,7 +53,6 @@ fn is_below(path: &str) -> bool {
     !path.starts_with('/') && !leads_up(path)
 }
 
-/// Whether a file lies below the folder that TEXMFOUTPUT names.
 fn is_output(path: &str, output: Option<&str>) -> bool {
     match output {
         Some(folder) => {

@@ -45,7 +45,6 @@ pub struct Job<'a> {
 }
 
 impl<'a> Job<'a> {
-    /// The text of a file.
     fn text(&self, name: &[u8]) -> Option<&'a [u8]> {
         let file = self.files.iter().find(|file| file.name.as_slice() == name)?;
         Some(file.text.as_slice())
@@ -69,7 +68,6 @@ fn has_words(message: &Message, words: &[u8]) -> bool {
     }
 }
 
-/// Whether biblatex wrote the `.aux` file of a job.
 fn is_biblatex(alloc: Global, job: Job<'_>) -> Result<bool, AllocError> {
     let name = format!(in alloc; "{}.aux", job.name)?;
     let Some(text) = job.text(name.as_bytes()) else {
@@ -81,7 +79,6 @@ fn is_biblatex(alloc: Global, job: Job<'_>) -> Result<bool, AllocError> {
     )
 }
 
-/// Whether biblatex left a file for biber beside a job.
 fn has_control_file(alloc: Global, rt: &HostRuntime, job: Job<'_>) -> Result<bool, AllocError> {
     let name = format!(in alloc; "{}.bcf", job.name)?;
     match fs::exists(rt, name.as_str()) {

@@ -8,17 +8,16 @@ mod hints;
 mod options;
 mod report;
 mod takeover;
-mod version;
 
 use crate::disk::Output;
 use crate::guard::Rule;
 use crate::options::{Options, Request, parse};
 use crate::report::complain;
-use crate::version::VERSION;
 use bt_job::File;
 use bt_log::{Message, log_bytes};
+use bt_programs::{VERSION, words};
 use bt_run::Answers;
-use bt_search::{FILES_WANTED, HAND_OVER, Script, Search, words};
+use bt_search::{FILES_WANTED, HAND_OVER, Script, Search};
 use bt_text::Bytes;
 use std::alloc::{AllocError, Global};
 use std::fs;
@@ -138,7 +137,6 @@ fn finish(
     })
 }
 
-/// Prints hints, as long as there is memory; the files are written by then.
 fn hint(rt: &HostRuntime, options: &Options<'_>, files: &[File], run: &Answers, status: u8) {
     if options.quiet || status == NOT_WRITTEN {
         return;
@@ -234,7 +232,6 @@ fn refuse_words(rt: &HostRuntime) -> Result<u8, AllocError> {
     Ok(NOT_RUN)
 }
 
-/// Does what the command line asks for, and returns the exit status.
 fn answer(rt: &HostRuntime) -> Result<u8, AllocError> {
     let Some(words) = words(rt)? else {
         return refuse_words(rt);

@@ -133,7 +133,6 @@ impl<'a> Reader<'a> {
         Ok(())
     }
 
-    /// Takes a word. An error is the result of the whole command line.
     fn take(&mut self, word: &'a str) -> Result<(), Request<'a>> {
         if self.wants_number {
             return self.take_number(word);

@@ -14,7 +14,6 @@ fn is_style_fault(message: &Message) -> bool {
     }
 }
 
-/// Whether a message says that a step of the style reached a limit.
 fn is_step_limit(message: &Message) -> bool {
     matches!(
         (&message.rank, &message.place),
@@ -22,7 +21,6 @@ fn is_step_limit(message: &Message) -> bool {
     )
 }
 
-/// Whether a message says that a value was left out because it is too long.
 fn is_value_limit(message: &Message) -> bool {
     match &message.said {
         Said::Words(words) => {

@@ -2,6 +2,7 @@
 
 use crate::report::Checked;
 use bt_check::{Call, Condition, Fault, Hint, decimal, field_name, function_name};
+use bt_programs::append_json_string;
 use bt_text::Bytes;
 use std::alloc::{AllocError, Global};
 
@@ -9,40 +10,6 @@ use std::alloc::{AllocError, Global};
 struct Lines<'a> {
     checked: &'a Checked<'a>,
     text: Bytes,
-}
-
-fn hex(number: u8) -> u8 {
-    if number < 10 {
-        b'0'.saturating_add(number)
-    } else {
-        (b'a' - 10).saturating_add(number)
-    }
-}
-
-fn append_byte(text: &mut Bytes, byte: u8, is_plain: bool) -> Result<(), AllocError> {
-    match byte {
-        b'"' => text.append(b"\\\""),
-        b'\\' => text.append(b"\\\\"),
-        b' '..=b'~' => text.append(&[byte]),
-        _ => {
-            if is_plain && byte > b'~' {
-                text.append(&[byte])
-            } else {
-                text.append(b"\\u00")?;
-                text.append(&[hex(byte / 16), hex(byte % 16)])
-            }
-        }
-    }
-}
-
-/// Appends bytes as a string. Those that aren't UTF-8 are taken for Latin-1.
-fn append_string(text: &mut Bytes, bytes: &[u8]) -> Result<(), AllocError> {
-    let is_plain = std::str::from_utf8(bytes).is_ok();
-    text.append(b"\"")?;
-    for byte in bytes {
-        append_byte(text, *byte, is_plain)?;
-    }
-    text.append(b"\"")
 }
 
 impl<'a> Lines<'a> {
@@ -53,7 +20,7 @@ impl<'a> Lines<'a> {
 
     fn string(&mut self, before: &[u8], name: &[u8], value: &[u8]) -> Result<(), AllocError> {
         self.member(before, name)?;
-        append_string(&mut self.text, value)
+        append_json_string(&mut self.text, value)
     }
 
     fn number(&mut self, before: &[u8], name: &[u8], value: usize) -> Result<(), AllocError> {
@@ -142,7 +109,7 @@ impl<'a> Lines<'a> {
         let mut before: &[u8] = b"";
         for function in &checked.findings.types {
             self.text.append(before)?;
-            append_string(&mut self.text, function_name(checked.style, *function))?;
+            append_json_string(&mut self.text, function_name(checked.style, *function))?;
             before = b",";
         }
         self.text.append(b"]")
@@ -175,16 +142,16 @@ pub fn objects<'a>(checked: &'a Checked<'a>) -> Result<Bytes, AllocError> {
 
 pub fn refused(alloc: Global, path: &str, line: usize, words: &[u8]) -> Result<Bytes, AllocError> {
     let mut text = Bytes::of(alloc, &[b"{\"file\":"])?;
-    append_string(&mut text, path.as_bytes())?;
+    append_json_string(&mut text, path.as_bytes())?;
     let line = decimal(alloc, line)?;
     text.append_all(&[
         b",\"line\":",
         line.as_slice(),
         b",\"severity\":\"error\",\"code\":\"read\",\"message\":",
     ])?;
-    append_string(&mut text, words)?;
+    append_json_string(&mut text, words)?;
     text.append(b"}\n{\"file\":")?;
-    append_string(&mut text, path.as_bytes())?;
+    append_json_string(&mut text, path.as_bytes())?;
     text.append(b",\"result\":\"unreadable\"}\n")?;
     Ok(text)
 }

@@ -8,7 +8,7 @@ mod report;
 use crate::options::{Format, Options, Request, parse};
 use crate::report::{Checked, UNKNOWN};
 use bt_check::{FaultKind, check, lint};
-use bt_search::{read, words};
+use bt_programs::{VERSION, read, words};
 use bt_sound::is_sound;
 use bt_style::{Style, StyleRefusal, read_style};
 use bt_text::Bytes;
@@ -22,8 +22,6 @@ const WORK: u64 = 2_000_000;
 
 /// How much work the proof that a style is sound may take: half a second. Most styles take less than a fifth of it.
 const PROOF_WORK: u64 = 1_000_000;
-
-const VERSION: &str = "0.9.0";
 
 const HELP: &str = "\
 usage: bibtex-check [--lint] [--types] [--format=text|json] STYLE..
@@ -153,7 +151,6 @@ fn check_file(rt: &HostRuntime, path: &str, options: Options) -> Result<u8, Allo
     Ok(status)
 }
 
-/// The highest exit status of the styles.
 fn check_files(rt: &HostRuntime, options: Options, paths: &[&str]) -> Result<u8, AllocError> {
     let mut status = 0;
     for path in paths {
@@ -174,7 +171,6 @@ fn refuse(rt: &HostRuntime, request: &Request<'_>) -> u8 {
     UNKNOWN
 }
 
-/// Does what the command line asks for, and tells the exit status.
 fn answer(rt: &HostRuntime) -> Result<u8, AllocError> {
     let Some(words) = words(rt)? else {
         let _ = eprintln!(rt; "bibtex-check: the command line isn't UTF-8");

@@ -66,31 +66,18 @@ struct Report<'a> {
 }
 
 pub fn refused(alloc: Global, path: &str, line: usize, words: &[u8]) -> Result<Bytes, AllocError> {
-    let mut text = Bytes::new(alloc);
-    add_head(alloc, &mut text, path, line, b"error", b"read")?;
-    text.append_all(&[words, b"\n"])?;
-    Ok(text)
-}
-
-fn add_head<'x>(
-    alloc: Global,
-    text: &mut Bytes,
-    path: &'x str,
-    line: usize,
-    severity: &'x [u8],
-    code: &'x [u8],
-) -> Result<(), AllocError> {
     let line = decimal(alloc, line)?;
-    text.append_all(&[
-        path.as_bytes(),
-        b":",
-        line.as_slice(),
-        b": ",
-        severity,
-        b"[",
-        code,
-        b"]: ",
-    ])
+    Bytes::of(
+        alloc,
+        &[
+            path.as_bytes(),
+            b":",
+            line.as_slice(),
+            b": error[read]: ",
+            words,
+            b"\n",
+        ],
+    )
 }
 
 impl<'a> Report<'a> {
@@ -102,18 +89,13 @@ impl<'a> Report<'a> {
         words: &[u8],
     ) -> Result<(), AllocError> {
         let checked: &'a Checked<'a> = self.checked;
-        add_head(
-            checked.alloc,
-            &mut self.text,
-            checked.path,
-            line,
-            severity,
-            code,
-        )?;
-        self.text.append_all(&[words, b"\n"])
+        let line = decimal(checked.alloc, line)?;
+        self.text
+            .append_all(&[checked.path.as_bytes(), b":", line.as_slice(), b": "])?;
+        self.text
+            .append_all(&[severity, b"[", code, b"]: ", words, b"\n"])
     }
 
-    /// Adds a line, unless it has no words.
     fn add_line<'x>(&mut self, begin: &'x [u8], words: &'x Bytes) -> Result<(), AllocError> {
         if words.len() == 0 {
             return Ok(());

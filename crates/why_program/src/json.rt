@@ -3,47 +3,11 @@
 use crate::report::Report;
 use bt_log::{Message, Said};
 use bt_origins::{Fate, decimal};
+use bt_programs::append_json_string;
 use bt_text::Bytes;
 use bt_why::{Mark, Piece, Site, Source, Written, line_bytes};
 use std::alloc::AllocError;
 
-/// The digit of a number below 16.
-fn hex(number: u8) -> u8 {
-    if number < 10 {
-        b'0'.saturating_add(number)
-    } else {
-        (b'a' - 10).saturating_add(number)
-    }
-}
-
-/// Appends a byte of a string: as it is, if JSON allows that.
-fn append_byte(text: &mut Bytes, byte: u8, is_plain: bool) -> Result<(), AllocError> {
-    match byte {
-        b'"' => text.append(b"\\\""),
-        b'\\' => text.append(b"\\\\"),
-        b' '..=b'~' => text.append(&[byte]),
-        _ => {
-            if is_plain && byte > b'~' {
-                text.append(&[byte])
-            } else {
-                text.append(b"\\u00")?;
-                text.append(&[hex(byte / 16), hex(byte % 16)])
-            }
-        }
-    }
-}
-
-/// Appends bytes as a string. Those that aren't UTF-8 are taken for Latin-1.
-fn append_string(text: &mut Bytes, bytes: &[u8]) -> Result<(), AllocError> {
-    let is_plain = std::str::from_utf8(bytes).is_ok();
-    text.append(b"\"")?;
-    for byte in bytes {
-        append_byte(text, *byte, is_plain)?;
-    }
-    text.append(b"\"")
-}
-
-/// What a source is called.
 fn source_name(source: Option<Source>) -> &'static [u8] {
     match source {
         Some(Source::Literal(_)) => b"literal",
@@ -66,7 +30,7 @@ impl<'a> Report<'a> {
 
     fn string(&mut self, before: &[u8], name: &[u8], value: &[u8]) -> Result<(), AllocError> {
         self.member(before, name)?;
-        append_string(&mut self.text, value)
+        append_json_string(&mut self.text, value)
     }
 
     fn number(&mut self, before: &[u8], name: &[u8], value: usize) -> Result<(), AllocError> {
@@ -98,7 +62,6 @@ impl<'a> Report<'a> {
         self.end_list(before == b"[{".as_slice())
     }
 
-    /// A field, and where it stands.
     fn field(&mut self, mark: Mark, field: usize) -> Result<(), AllocError> {
         let sources = self.sources;
         self.string(b",", b"field", sources.field_name(field))?;
@@ -115,7 +78,7 @@ impl<'a> Report<'a> {
         let mut before: &[u8] = b"[";
         for builtin in self.sources.makers(mark)? {
             self.text.append(before)?;
-            append_string(&mut self.text, builtin.name())?;
+            append_json_string(&mut self.text, builtin.name())?;
             before = b",";
         }
         self.end_list(before == b"[".as_slice())

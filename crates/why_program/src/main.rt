@@ -12,8 +12,9 @@ use bt_job::File;
 use bt_origins::{
     Difference, Explained, NamedText, Places, Sources, explain, places_of, style_named, text_named,
 };
+use bt_programs::{VERSION, words};
 use bt_run::Run;
-use bt_search::{FILES_WANTED, Script, Search, words};
+use bt_search::{FILES_WANTED, Script, Search};
 use bt_style::{Style, StyleRefusal, read_style};
 use bt_text::Bytes;
 use bt_why::Line;
@@ -27,8 +28,6 @@ use std::process::ExitCode;
 const NO_PLACE: u8 = 1;
 /// The exit status if the job can't be run, or if it can't be explained.
 const NOT_RUN: u8 = 2;
-
-const VERSION: &str = "0.9.0";
 
 const HELP: &str = "\
 usage: bibtex-why [--exact] [--format=text|json] [--min-crossrefs=N] JOB [LINE[:COLUMN] | KEY]
@@ -49,7 +48,6 @@ which fields aren't in the bibliography. Without LINE or KEY it shows all lines.
 Exit status: 0 if the place was explained, 1 if there is no such line or entry, 2 if the job can't
 be run or explained, or if the command line is wrong.";
 
-/// The job's files by their names.
 fn named<'a>(alloc: Global, files: &'a [File]) -> Result<Vec<NamedText<'a>>, AllocError> {
     let mut all = Vec::new(alloc);
     for file in files {
@@ -79,7 +77,6 @@ fn add_lines(report: &mut Report<'_>, lines: &[&Line]) -> Result<bool, AllocErro
     Ok(true)
 }
 
-/// The line of a number, from 1.
 fn line_at<'a>(lines: &[&'a Line], number: usize) -> Option<&'a Line> {
     lines.get(number.checked_sub(1)?).copied()
 }
@@ -202,20 +199,17 @@ fn explain_with(
 fn explain_run(
     alloc: Global,
     files: &[NamedText<'_>],
-    run: &Run,
-    style: &Style,
-    name: &[u8],
+    styled: Styled<'_>,
     text: &[u8],
     options: Options<'_>,
 ) -> Result<Printed, AllocError> {
-    let styled = Styled { run, style, name };
-    let program = Program::of(alloc, style, text)?;
+    let program = Program::of(alloc, styled.style, text)?;
+    let run = styled.run;
     let messages = run.answers.messages.as_slice();
     let places = places_of(alloc, files, messages, run.readings.databases.as_slice())?;
     explain_with(alloc, styled, &program, &places, options)
 }
 
-/// What there is to say of a job that was run.
 fn explain_job(
     alloc: Global,
     files: &[File],
@@ -231,7 +225,14 @@ fn explain_job(
         return Ok(None);
     };
     match read_style(alloc, text) {
-        Ok(style) => Ok(Some(explain_run(alloc, files, run, &style, name, text, options)?)),
+        Ok(style) => {
+            let styled = Styled {
+                run,
+                style: &style,
+                name,
+            };
+            Ok(Some(explain_run(alloc, files, styled, text, options)?))
+        }
         Err(StyleRefusal::Fault { .. }) => Ok(None),
         Err(StyleRefusal::OutOfMemory) => Err(AllocError),
     }
@@ -249,7 +250,6 @@ fn print(rt: &HostRuntime, printed: &Printed) -> u8 {
     *status
 }
 
-/// Says that there is no such place.
 fn miss(rt: &HostRuntime, options: Options<'_>) {
     let job = options.job;
     let _ = match options.question {
@@ -321,7 +321,6 @@ fn refuse(rt: &HostRuntime, request: Request<'_>) -> u8 {
     NOT_RUN
 }
 
-/// Does what the command line asks for, and tells the exit status.
 fn answer(rt: &HostRuntime) -> Result<u8, AllocError> {
     let Some(words) = words(rt)? else {
         let _ = eprintln!(rt; "bibtex-why: the command line isn't UTF-8");

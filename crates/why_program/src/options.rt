@@ -61,7 +61,6 @@ fn number(text: &str) -> Option<usize> {
     text.parse::<usize>().ok()
 }
 
-/// A line, or a line and a column.
 fn line_of(place: &str) -> Option<Question<'_>> {
     match place.split_once(':') {
         None => Some(Question::Line(number(place)?, None)),

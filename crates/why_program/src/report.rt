@@ -41,7 +41,6 @@ pub struct Report<'a> {
     pub text: Bytes,
 }
 
-/// The steps that wrote a line, in order.
 fn steps_of(line: &[Written], steps: &mut Vec<usize>) -> Result<(), AllocError> {
     for written in line {
         if !steps.contains(&written.step) {
@@ -98,7 +97,6 @@ impl<'a> Report<'a> {
         }
     }
 
-    /// Adds the entry of a step, with its type and place.
     fn add_entry(&mut self, key: &[u8]) -> Result<(), AllocError> {
         self.text.append_all(&[b", for ", key])?;
         let Some(place) = self.sources.places.entry(key)? else {
@@ -265,7 +263,6 @@ impl<'a> Report<'a> {
         }
     }
 
-    /// Adds a message, its step, and the functions in which it came.
     fn add_message(
         &mut self,
         message: &Message,

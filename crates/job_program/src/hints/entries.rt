@@ -39,7 +39,6 @@ fn cite_all(alloc: Global, keys: &mut Keys, text: &[u8]) -> Result<(), AllocErro
     Ok(())
 }
 
-/// The entry of a piece of a database, and its key, if it has one.
 fn entry(piece: &Piece) -> Option<(&Entry, &[u8])> {
     let Piece::Item(item) = piece else {
         return None;
@@ -51,7 +50,6 @@ fn entry(piece: &Piece) -> Option<(&Entry, &[u8])> {
     Some((entry, key.as_slice()))
 }
 
-/// The text of a value that is one string.
 fn plain(field: &Field) -> Option<&[u8]> {
     match field.value.as_slice().first()? {
         Part::Text(text) if field.value.len() == 1 => Some(text.as_slice()),
@@ -272,7 +270,6 @@ fn has_parent(entry: &Entry) -> bool {
         .any(|field| is_named(field, b"crossref"))
 }
 
-/// The databases of a job, as they are read.
 fn read_all(alloc: Global, files: &[File]) -> Result<Vec<Items>, AllocError> {
     let mut databases = Vec::new(alloc);
     'files: for file in files {

@@ -96,7 +96,6 @@ enum Offer {
     Name(String),
 }
 
-/// Looks for a file in the folder and its folders, and for one whose name is nearly the same.
 fn look_for(
     alloc: Global,
     rt: &HostRuntime,

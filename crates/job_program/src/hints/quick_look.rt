@@ -66,7 +66,6 @@ fn ends_name(rest: &[u8]) -> bool {
     rest.starts_with(b"}") || rest.starts_with(b"\"") || begins_with_and(rest)
 }
 
-/// Whether a name may end in a comma.
 fn has_last_comma(names: &[u8]) -> bool {
     memchr_iter(b',', names).any(|place| ends_name(after(names, place)))
 }
@@ -137,7 +136,6 @@ fn key(item: &[u8]) -> Option<&[u8]> {
     rest.split(|byte| *byte == b'}' || ends_word(*byte)).next()
 }
 
-/// Whether a parent's key may be spelled otherwise.
 fn has_other_key(alloc: Global, text: &[u8], parents: &Parents<'_>) -> Result<bool, AllocError> {
     'items: for place in memchr_iter(b'@', text) {
         if let Some(found) = key(after(text, place))

@@ -64,7 +64,6 @@ struct Shown<'a> {
     byte: Option<usize>,
 }
 
-/// The place of a message about a line.
 fn place_of(message: &Message) -> Option<Shown<'_>> {
     if !matches!(message.rank, Rank::Warning | Rank::Error | Rank::Fatal) {
         return None;
