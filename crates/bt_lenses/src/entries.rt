@@ -1,9 +1,8 @@
 //! Over an entry of a database: its lines of the bibliography, and which of its fields the run never read.
 
-use crate::ran::Lens;
-use crate::wording::entry_words;
 use bt_bib::Entry;
 use bt_origins::{PlacedEntry, PlacedField, Sources};
+use bt_remarks::{Lens, entry_words};
 use bt_text::{ByName, Bytes, Sequence, eq_ignore_ascii_case};
 use bt_why::Written;
 use std::alloc::AllocError;
@@ -72,7 +71,6 @@ impl<'a> Uses<'a> {
         Ok(())
     }
 
-    /// Notes that the run read a field.
     fn note_field(&mut self, field: PlacedField<'a>) -> Result<(), AllocError> {
         let name: &'a [u8] = field.field.name.as_slice();
         if let Some(number) = self.number(field.key)?
@@ -115,7 +113,6 @@ impl<'a> Uses<'a> {
         Ok(())
     }
 
-    /// Notes each field that a step pushed.
     fn note_fields(&mut self) -> Result<(), AllocError> {
         let sources = self.sources;
         for (number, step) in sources.explained.steps.iter().enumerate() {

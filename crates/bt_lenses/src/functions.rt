@@ -1,8 +1,7 @@
 //! Over a function of a style: how many pieces of the bibliography were pushed while it ran, and in how many entries.
 
-use crate::ran::Lens;
-use crate::wording::function_words;
 use bt_origins::Sources;
+use bt_remarks::{Lens, function_words};
 use bt_text::Sequence;
 use bt_why::{Piece, pieces};
 use bt_words::Program;

@@ -9,7 +9,6 @@ mod entries;
 mod functions;
 mod origin;
 mod ran;
-mod wording;
 
-pub use origin::{FileLine, Origin, origin_at};
-pub use ran::{Lens, Ran, lenses};
+pub use origin::origin_at;
+pub use ran::{Ran, lenses};

@@ -2,30 +2,13 @@
 
 use crate::ran::{Question, Ran, Styled, ask};
 use bt_origins::Sources;
+use bt_remarks::{FileLine, Origin};
 use bt_text::Bytes;
 use bt_why::{Mark, Source};
 use std::alloc::{AllocError, Global};
 
 /// The most bytes of a bibliography whose origins are found: 1 MiB takes about a second.
 const ORIGIN_BYTES: usize = 1_048_576;
-
-/// A line of a file, whose number is from 0.
-#[derive(Drop)]
-pub struct FileLine {
-    pub file: Bytes,
-    pub line: usize,
-}
-
-/// Where a byte comes from.
-#[derive(Drop)]
-pub struct Origin {
-    /// What it comes from, and through which built-in functions.
-    pub words: Bytes,
-    /// The field, if it comes from one.
-    pub field: Option<FileLine>,
-    /// The word of the style that pushed it.
-    pub word: Option<FileLine>,
-}
 
 /// Asks for a byte of a line, both from 0.
 #[derive(Drop)]

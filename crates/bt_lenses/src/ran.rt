@@ -6,6 +6,7 @@ use bt_log::Message;
 use bt_origins::{
     Explained, NamedText, Places, Sources, explain, is_source, places_of, style_named, text_named,
 };
+use bt_remarks::Lens;
 use bt_run::{Kept, Readings};
 use bt_style::{Style, StyleRefusal, read_style};
 use bt_text::{Bytes, Sequence};
@@ -15,13 +16,6 @@ use std::alloc::{AllocError, Global};
 /// The most bytes of a bibliography over whose files lenses stand: 64 KiB, some 400 entries, take some 50 ms. Editors ask
 /// for lenses after each change.
 const LENS_BYTES: usize = 65_536;
-
-/// A line of words over a line of a file, whose number is from 0.
-#[derive(Drop)]
-pub struct Lens {
-    pub line: usize,
-    pub words: Bytes,
-}
 
 /// A run with the files that it read.
 #[derive(Clone, Copy)]

@@ -9,6 +9,7 @@ use Rattle.bt_positions.specs.Positions.{offset_of}
 use Rattle.bt_positions.specs.declared.counting.Counting.{Counting}
 use Rattle.bt_positions.specs.declared.indexed_text.Position.{Position}
 use Rattle.bt_shapes.proofs.PlainLists.{IsPlain, items_plain, all_both, all_mapped, more_plain, fold_between_plain}
+use Rattle.bt_style_text.specs.declared.words.Word.{Word}
 use Rattle.bt_style_text.specs.declared.marks.Mark.{Mark}
 use Rattle.bt_style_text.specs.declared.outline.Symbol.{Symbol}
 use Rattle.bt_style_text.specs.declared.renaming.RenameRefusal.{RenameRefusal}
@@ -29,8 +30,8 @@ use Rattle.bt_style_answers.specs.declared.references.Lent.{Lent}
 use Rattle.bt_style_answers.specs.References.{mark_location, maybe_location, definition_at, asked_of, references_at, meant, with_mark, with_declaration}
 use Rattle.bt_style_answers.specs.Hovering.{shown_words, hover_at}
 use Rattle.bt_style_answers.specs.Outline.{symbol_of, symbols_in}
-use Rattle.bt_style_text.specs.Hinting.{unused, declarations, unknown}
-use Rattle.bt_style_answers.specs.Hinting.{unused_at, unknown_at, unused_in, unknown_in, hints_in}
+use Rattle.bt_style_text.specs.Hinting.{unused, declarations}
+use Rattle.bt_style_answers.specs.Hinting.{unused_at, unknown_at, unused_in, unknown_but, unknown_in, hints_in}
 use Rattle.bt_style_answers.specs.Folding.{fold_of, folds_of, folds_in, line_of}
 use Rattle.bt_style_answers.specs.Completion.{written_at, builtin_item, builtin_items, command_item, command_items, mark_item, offered_items, completion_at}
 use Rattle.bt_style_answers.specs.Renaming.{edit_of, edits_or_refusal, rename_at, range_or_refusal, renamed_range_at}
@@ -129,8 +130,8 @@ renamed_range_plain c words at =
 
 -- ---- hints
 
-pub hints_plain : (c : Counting) (words : List ℕ) → AllByRecursion IsPlain (hints_in c words)
-hints_plain c words =
+pub hints_plain : (c : Counting) (fault : Option Word) (words : List ℕ) → AllByRecursion IsPlain (hints_in c fault words)
+hints_plain c fault words =
     let marks = marks_of words in
-    all_both IsPlain (unused_in c words marks) (unknown_in c words marks) (all_mapped (unused_at c words) (λ m. refl) (unused words marks))
-    (all_mapped (unknown_at c words (declarations marks)) (λ m. refl) (unknown words marks (declarations marks)))
+    all_both IsPlain (unused_in c words marks) (unknown_in c fault words marks) (all_mapped (unused_at c words) (λ m. refl) (unused words marks))
+    (all_mapped (unknown_at c words (declarations marks)) (λ m. refl) (unknown_but fault words marks))

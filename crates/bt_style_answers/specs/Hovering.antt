@@ -13,15 +13,15 @@ use Rattle.bt_shapes.specs.Shapes.{text}
 abbrev pub kind_of : Bool → List ℕ
 kind_of plain = if plain then codes "plaintext" else codes "markdown"
 
--- words as plain text or in Markdown
-abbrev pub contents : Bool → List ℕ → Data
-contents plain words =
+-- what a hover shows of words, as plain text or in Markdown
+abbrev pub hover_contents : Bool → List ℕ → Data
+hover_contents plain words =
     object (member (codes "contents") (object (member (codes "kind") (string (kind_of plain))
     (member (codes "value") (text words) no_members))) no_members)
 
 abbrev pub shown_words : Bool → List ℕ → Data
 shown_words plain [] = null
-shown_words plain (b ∷ words) = contents plain (b ∷ words)
+shown_words plain (b ∷ words) = hover_contents plain (b ∷ words)
 
 -- what is shown of the name at a position, and the notes below; null if there is nothing to say
 abbrev pub hover_at : Bool → Counting → List ℕ → Position → List ℕ → Data

@@ -2,7 +2,7 @@
 
 ghost use Rattle.std.specs.Prelude.{◌≡◌, IfOk};
 ghost use Rattle.serde_json.specs.View.{view};
-ghost use Rattle.bt_style_answers.specs.Hovering.{kind_of, contents, shown_words, hover_at};
+ghost use Rattle.bt_style_answers.specs.Hovering.{kind_of, hover_contents, shown_words, hover_at};
 
 use crate::shown_style::ShownStyle;
 use bt_effects::with_notes;
@@ -18,8 +18,9 @@ fn kind_of(plain: bool) -> &'static str
     if plain { "plaintext" } else { "markdown" }
 }
 
-fn contents(alloc: Global, plain: bool, words: &[u8]) -> Result<Value, AllocError>
-    ensures { IfOk result (λ v. view v ≡ contents plain words.now) }
+/// What a hover shows of words, as plain text or in Markdown.
+pub fn hover_contents(alloc: Global, plain: bool, words: &[u8]) -> Result<Value, AllocError>
+    ensures { IfOk result (λ v. view v ≡ hover_contents plain words.now) }
 {
     let kind = kind_of(plain);
     let words = shown(alloc, words)?;
@@ -32,7 +33,7 @@ fn shown_words(alloc: Global, plain: bool, words: &[u8]) -> Result<Value, AllocE
     if words.is_empty() {
         Ok(Value::Null)
     } else {
-        contents(alloc, plain, words)
+        hover_contents(alloc, plain, words)
     }
 }
 

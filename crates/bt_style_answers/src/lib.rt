@@ -10,5 +10,7 @@ mod references;
 mod renaming;
 mod shown_style;
 
+pub use hinting::fault_words;
+pub use hovering::hover_contents;
 pub use references::Lent;
 pub use shown_style::ShownStyle;

@@ -2,6 +2,7 @@
 
 use crate::places::{Place, Wanted, Words};
 use bt_check::{Call, Fault, Hint, Rule, check, function_name, lint};
+use bt_remarks::{CallPlace, Finding, Weight};
 use bt_style::{Style, StyleRefusal, read_style};
 use bt_style_text::{Mark, marks_of, unused};
 use bt_text::{Bytes, Sequence};
@@ -11,38 +12,6 @@ use std::alloc::{AllocError, Global};
 /// How many steps the check may take, so that a letter is answered within some 50 ms. Four of five published styles need
 /// fewer. `bibtex-check` may take two million.
 const WORK: u64 = 150_000;
-
-/// What the editor makes of a finding.
-#[derive(Clone, Copy, Debug, PartialEq, Eq)]
-pub enum Weight {
-    /// Some database makes the style do this wrong.
-    Fault,
-    Hint,
-    /// A hint at what could go.
-    Unused,
-}
-
-/// A call that leads to a finding.
-#[derive(Drop)]
-pub struct CallPlace {
-    pub start: usize,
-    pub end: usize,
-    pub words: Bytes,
-}
-
-/// What the check found: the part of the text where it is, its code and words, and the calls that lead there.
-#[derive(Drop)]
-pub struct Finding {
-    pub start: usize,
-    pub end: usize,
-    pub weight: Weight,
-    pub code: Bytes,
-    pub words: Bytes,
-    /// An entry for which it comes, as a run has shown; empty if none is known.
-    pub entry: Bytes,
-    /// The innermost first.
-    pub calls: Sequence<CallPlace>,
-}
 
 #[derive(Clone, Copy)]
 struct Scene<'a> {

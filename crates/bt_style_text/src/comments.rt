@@ -63,7 +63,6 @@ fn longer(text: &[u8], run: Option<Run>, start: usize, end: usize) -> Run
     }
 }
 
-/// The comments that end after a word.
 fn run_after(text: &[u8], run: Option<Run>, mark: Mark) -> Option<Run>
     ensures { result ≡ run_after text.now run mark }
 {

@@ -150,7 +150,6 @@ fn most_edits(name: &[u8]) -> usize
     name.len().min(MOST_EDITS + 1)
 }
 
-/// The nearer one of a name and the nearest so far.
 fn nearer(
     alloc: Global,
     name: &[u8],
@@ -203,7 +202,6 @@ fn nearest_builtin(
     Ok(best)
 }
 
-/// The nearest of all built-in functions, and of what was there before.
 fn nearest_of_all(alloc: Global, name: &[u8], nearest: Nearest) -> Result<Nearest, AllocError>
     ensures { IfOk result (λ best. best ≡ nearest_builtin name.now nearest all_builtins) }
 {

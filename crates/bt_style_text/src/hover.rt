@@ -23,7 +23,6 @@ use std::alloc::{AllocError, Global};
 /// How many lines of a comment and of a function are shown.
 const SHOWN_LINES: usize = 12;
 
-/// What a name is declared as.
 fn kind_words(kind: Kind) -> &'static [u8]
     ensures { result.now ≡ kind_words kind }
 {
@@ -58,7 +57,6 @@ fn add_declaration(
     words.append_all(&[b"`", name, b"`: ", kind, b", line ", line, b"\n\n"])
 }
 
-/// Appends the first lines of a comment.
 fn add_above(words: &mut Bytes, text: &[u8], run: Option<Run>) -> Result<(), AllocError>
     ensures { OnOk result (words.new ≡ words.old ++ above_words text.now run) }
 {
@@ -86,7 +84,6 @@ fn add_code(
     words.append_all(&[code, b"\n```\n\n"])
 }
 
-/// Appends names.
 fn add_names(words: &mut Bytes, text: &[u8], names: &[Mark]) -> Result<(), AllocError>
     ensures { OnOk result (words.new ≡ words.old ++ listed text.now names.now) }
 {
@@ -96,7 +93,6 @@ fn add_names(words: &mut Bytes, text: &[u8], names: &[Mark]) -> Result<(), Alloc
     Ok(())
 }
 
-/// Appends how many functions use a name.
 fn add_user_count(words: &mut Bytes, count: usize) -> Result<(), AllocError>
     ensures { OnOk result (words.new ≡ words.old ++ user_count count) }
 {
@@ -114,7 +110,6 @@ fn add_count_and_names(words: &mut Bytes, text: &[u8], users: &[Mark]) -> Result
     Ok(())
 }
 
-/// Appends the functions that use a name.
 fn add_users(
     alloc: Global,
     words: &mut Bytes,
@@ -128,7 +123,6 @@ fn add_users(
     add_count_and_names(words, text, users.as_slice())
 }
 
-/// Appends how often a variable is set and used.
 fn add_counts(words: &mut Bytes, text: &[u8], marks: &[Mark], name: &[u8]) -> Result<(), AllocError>
     ensures { OnOk result (words.new ≡ words.old ++ count_words text.now name.now marks.now) }
 {
@@ -145,7 +139,6 @@ fn add_counts(words: &mut Bytes, text: &[u8], marks: &[Mark], name: &[u8]) -> Re
     ])
 }
 
-/// Appends what is said of a variable whose name stands here.
 fn add_variable(
     alloc: Global,
     words: &mut Bytes,
@@ -186,7 +179,6 @@ fn add_kind(
     }
 }
 
-/// What is said of something that a style declares.
 fn symbol_hover(
     alloc: Global,
     text: &[u8],
@@ -206,7 +198,6 @@ fn symbol_hover(
     Ok(words)
 }
 
-/// The symbol whose name begins at a place.
 fn symbol_at(symbols: &[Symbol], place: usize) -> Option<Symbol>
     ensures { result ≡ symbol_at place symbols.now }
 {
@@ -216,7 +207,6 @@ fn symbol_at(symbols: &[Symbol], place: usize) -> Option<Symbol>
         .find(|symbol| symbol.name.start == place)
 }
 
-/// What is said of the name that a style declares at a place.
 fn declared_hover(
     alloc: Global,
     text: &[u8],
@@ -232,7 +222,6 @@ fn declared_hover(
     }
 }
 
-/// What is said of a built-in function: what it does, and what it costs.
 fn builtin_hover(alloc: Global, builtin: Builtin) -> Result<Bytes, AllocError>
     ensures { IfOk result (λ words. words ≡ builtin_hover builtin) }
 {

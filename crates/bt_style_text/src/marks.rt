@@ -49,7 +49,6 @@ fn mark_of(context: Context, word: Word, bytes: &[u8]) -> Mark
     }
 }
 
-/// The roles of words of a text.
 fn marks_in(alloc: Global, text: &[u8], words: &[Word]) -> Result<Vec<Mark>, AllocError>
     ensures { IfOk result (λ marks. marks.items ≡ marks_from top text.now words.now) }
 {

@@ -73,7 +73,6 @@ fn symbol_with(kind: Kind, start: usize, mark: Mark, behind: &[Mark]) -> Symbol
     }
 }
 
-/// Appends what a mark declares, if it does.
 fn put(
     symbols: &mut Vec<Symbol>,
     start: usize,

@@ -60,25 +60,6 @@ fn refusal(
     }
 }
 
-fn rename_name(
-    alloc: Global,
-    text: &[u8],
-    marks: &[Mark],
-    space: Space,
-    old: &[u8],
-    new: &[u8],
-) -> Result<Result<Sequence<Mark>, RenameRefusal>, AllocError>
-    ensures { IfOk result (λ r. r ≡ renaming text.now marks.now space old.now new.now) }
-{
-    match refusal(text, marks, space, old, new) {
-        Some(refusal) => Ok(Err(refusal)),
-        None => {
-            let found = marks_of_name(alloc, text, marks, space, old)?;
-            Ok(Ok(Sequence::from_vec(found)))
-        }
-    }
-}
-
 /// The marks that have to be the new name, so that the name at a place is called so; or what stands in the way.
 pub fn rename(
     alloc: Global,
@@ -90,14 +71,17 @@ pub fn rename(
     ensures { IfOk result (λ r. r ≡ rename text.now marks.now place new.now) }
 {
     match name_at(marks, place) {
-        Some(mark) => rename_name(
-            alloc,
-            text,
-            marks,
-            space_of(mark.role),
-            part(text, mark.start, mark.end),
-            new,
-        ),
+        Some(mark) => {
+            let space = space_of(mark.role);
+            let old = part(text, mark.start, mark.end);
+            match refusal(text, marks, space, old, new) {
+                Some(refusal) => Ok(Err(refusal)),
+                None => {
+                    let found = marks_of_name(alloc, text, marks, space, old)?;
+                    Ok(Ok(Sequence::from_vec(found)))
+                }
+            }
+        }
         None => Ok(Err(RenameRefusal::NotDeclared)),
     }
 }

@@ -64,7 +64,6 @@ pub const TOP: Context = Context {
     depth: 0,
 };
 
-/// The role of a word in a function's body.
 fn body_role(word: &[u8]) -> Role
     ensures { result ≡ body_role word.now }
 {
@@ -75,7 +74,6 @@ fn body_role(word: &[u8]) -> Role
     }
 }
 
-/// The role of a word in an argument of a command, and in no further braces.
 fn role_in(command: Command, group: Group, word: &[u8]) -> Role
     ensures { result ≡ role_in command group word.now }
 {

@@ -26,7 +26,6 @@ pub fn is_use_of(text: &[u8], name: &[u8], mark: Mark) -> bool
     uses(mark.role) && is_name_of(text, Space::Names, name, mark)
 }
 
-/// The function in which the words after a mark are, if they are in one.
 fn function_after(function: Option<Mark>, mark: Mark) -> Option<Mark>
     ensures { result ≡ function_after function mark }
 {
@@ -48,7 +47,6 @@ fn next_function(is_use: bool, function: Option<Mark>, mark: Mark) -> Option<Mar
     }
 }
 
-/// Appends the function in which a use stands.
 fn put_caller(
     callers: &mut Vec<Mark>,
     is_use: bool,

@@ -61,7 +61,6 @@ fn literal_length(bytes: &[u8]) -> usize
         .count()
 }
 
-/// Whether these bytes may stand after a literal.
 fn may_follow(bytes: &[u8]) -> bool
     ensures { result ≡ may_follow bytes.now }
 {
@@ -113,7 +112,6 @@ fn piece(rest: &[u8]) -> (Option<WordKind>, usize)
     }
 }
 
-/// Appends a word, if there is one.
 fn put(
     words: &mut Vec<Word>,
     kind: Option<WordKind>,

@@ -1,7 +1,0 @@
-use Rattle.std.proofs.Common.{◌≡◌, ◌++◌, drop, map}
-use Rattle.serde_json.specs.View.{view}
-use Rattle.bt_style_findings.specs.Values.{call}
-use Rattle.bt_style_findings.proofs.values.call_values.Given as goal
-
-abbrev pub invariant-calls : goal.invariant-calls
-invariant-calls l = map view l.list.items ++ map (call l.counting l.uri l.text) (drop l.one-index l.calls) ≡ map (call l.counting l.uri l.text) l.calls

@@ -1,9 +1,0 @@
-use Rattle.std.proofs.Common.{◌≡◌, ◌++◌, drop, map}
-use Rattle.serde_json.specs.View.{view}
-use Rattle.bt_style_findings.specs.Values.{finding}
-use Rattle.bt_style_findings.proofs.values.with_findings.Given as goal
-
-abbrev pub invariant-found : goal.invariant-found
-invariant-found l =
-    map view l.all.items ++ map (finding l.counting l.uri l.text) (drop l.one-index l.found) ≡
-    map view l.fn.list.items ++ map (finding l.counting l.uri l.text) l.found
