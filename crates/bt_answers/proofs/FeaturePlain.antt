@@ -5,7 +5,7 @@ use Rattle.std.specs.List.{AllByRecursion, fold, list_all}
 use Rattle.serde_json.specs.Written.{has_float}
 use Rattle.serde_json.specs.Data.{Data, null, array}
 use Rattle.serde_json.specs.View.{items_of}
-use Rattle.bt_rpc.specs.declared.answers.RpcError.TheVariants.{BadName, TakenName, UndefinedMacro}
+use Rattle.bt_rpc.specs.declared.answers.RpcError.TheVariants.{BadName, TakenName, UndefinedMacro, InexactRename}
 use Rattle.bt_talk.specs.Handled.{HasNoFloat}
 use Rattle.bt_bib.specs.BibText.{pieces_of}
 use Rattle.bt_bib.specs.declared.placed_pieces.PlacedPiece.{PlacedPiece}
@@ -19,35 +19,36 @@ use Rattle.bt_answers.specs.declared.references.Wanted.TheVariants.{Definitions}
 use Rattle.bt_answers.specs.declared.hints.Names.TheVariants.{Entries, Asked}
 use Rattle.bt_answers.specs.Hints.{is_small, collected, missing_hint, unused_hint, is_missing_at, is_unused_at, with_missing, with_unused, asks_all, with_missing_among, with_missing_if_any, with_all_missing, with_unused_beside, with_unused_if_any, with_all_unused, with_hints}
 use Rattle.bt_log.specs.declared.message.Message.{Message}
-use Rattle.bt_log.specs.Wording.{said_words}
-use Rattle.bt_answers.specs.Faults.{faulty_file, any_fault, linked_name, fault_value, with_fault, with_faults_at, with_faults}
+use Rattle.bt_places.specs.Shown.{Shown}
+use Rattle.bt_answers.specs.Faults.{faulty_file, any_fault, linked_name, fault_words, fault_value, with_fault, with_faults_at, with_faults}
 use Rattle.bt_places.specs.Editor.{counting_in}
 use Rattle.bt_places.specs.Entries.{is_style, is_tex, is_database}
-use Rattle.bt_mentions.specs.declared.layout.Gap.{Gap}
-use Rattle.bt_mentions.specs.Gaps.{gaps}
 use Rattle.bt_mentions.specs.declared.linking.Link.{Link}
 use Rattle.bt_mentions.specs.declared.linking.LinkKind.{LinkKind}
 use Rattle.bt_mentions.specs.declared.linking.LinkKind.TheVariants.{Database, Style}
 use Rattle.bt_mentions.specs.Links.{links}
-use Rattle.bt_answers.specs.Links.{full_name, is_plain_byte, folder, ends_with, link_to, with_link_to, with_file, with_named, with_kind, with_link, links_of}
-use Rattle.bt_answers.specs.declared.formatting.LineEnd.{LineEnd}
-use Rattle.bt_answers.specs.declared.formatting.Scope.{Scope}
-use Rattle.bt_answers.specs.Formatting.{line_end, layout, is_asked, scope_of, with_gap, with_gaps, with_asked_gaps, formatted}
+use Rattle.bt_answers.specs.Links.{full_name, is_plain_byte, folder, folder_before, ends_with, link_to, with_link_to, with_file, with_named, with_kind, with_link, links_of}
+use Rattle.bt_edited.specs.declared.edits.Edit.{Edit}
+use Rattle.bt_edited.specs.declared.changes.Change.TheVariants.{Nothing}
+use Rattle.bt_edited.specs.Edits.{edited}
+use Rattle.bt_edited.specs.Becomes.{is_made}
+use Rattle.bt_answers.specs.EditValues.{edit_value, edit_values}
+use Rattle.bt_answers.specs.Formatting.{layout_edits, if_kept, formatted}
 use Rattle.bt_answers.specs.Folding.{fold_of, folds_in, folds_of}
-use Rattle.bt_shapes.proofs.PlainLists.{more_plain, fold_between_plain}
+use Rattle.bt_shapes.proofs.PlainLists.{all_mapped, more_plain, fold_between_plain}
 use Rattle.bt_places.specs.Mentioning.{is_key}
-use Rattle.bt_places.specs.Picking.{with_picked}
 use Rattle.bt_answers.specs.References.{is_mention, wanted_of, with_reference, with_references, all_references, asked_of, references, references_of, macro_places, macro_of}
 use Rattle.bt_style_answers.specs.declared.references.Lent.{Lent}
 use Rattle.bt_style_answers.specs.declared.references.Lent.TheVariants as lent
 use Rattle.bt_style_answers.specs.References.{with_declaration}
 use Rattle.bt_style_answers.proofs.PlainLemmas.{declaration_plain}
 use Rattle.bt_answers.specs.Lending.{with_lent}
-use Rattle.bt_answers.specs.Renaming.{text_edit, with_edit, file_edit, with_file_edit, with_renamed, can_be_named, is_free, is_defined, is_named, renamed, renamed_if_free, renamed_of, range_if_defined, mention_range}
+use Rattle.bt_answers.specs.Renaming.{file_edit, with_file_edit, with_renamed, name_edits, are_renamed, can_be_named, is_free, is_defined, is_named, renamed, renamed_if_free, renamed_of, range_if_defined, mention_range}
 use Rattle.bt_answers.specs.Symbols.{query_of, is_symbol, symbol_at, with_symbol, with_symbols, symbols}
 use Rattle.bt_places.specs.Shapes.{location, range_of}
 use Rattle.bt_places.specs.Visiting.{with_files, with_texts, is_any}
 use Rattle.bt_places.proofs.PlainLists.{IsPlainData, either_outcome, items_plain, all_both, none_or, either_plain, fold_plain, pushed_plain, files_plain, texts_plain}
+use Rattle.bt_places.proofs.CompletingPlain.{one_plain}
 use Rattle.bt_places.proofs.FeaturePlain.{OptionIsPlain, picked_plain, unless_plain}
 
 -- ---- references
@@ -93,8 +94,7 @@ edits_plain list uri edits p q = pushed_plain (is_any edits) (file_edit uri edit
 added_edits_plain : (units : List ℕ → Counting) (wanted : Wanted) (old new : List ℕ) (list : List Data) (uri text : List ℕ) → AllByRecursion HasNoFloat list →
     AllByRecursion HasNoFloat (with_renamed units wanted old new list uri text)
 added_edits_plain units wanted old new list uri text p =
-    edits_plain list uri (with_picked (with_edit units wanted old new) [] uri text) p
-    (picked_plain (with_edit units wanted old new) (λ u t l m q. pushed_plain (is_mention wanted old t m) (text_edit (range_of (units u) t m.from m.to) new) l refl q) [] uri text tt)
+    (let edits = name_edits units wanted old new uri text in edits_plain list uri (edit_values edits) p (all_mapped edit_value (λ e. refl) edits))
 
 all_edits_plain : (files : List (List ℕ × List ℕ)) (docs : List Document) (c : Counting) (wanted : Wanted) (old new : List ℕ) → has_float (renamed files docs c wanted old new) ≡ false
 all_edits_plain files docs c wanted old new =
@@ -104,11 +104,14 @@ all_edits_plain files docs c wanted old new =
 
 free_plain : (files : List (List ℕ × List ℕ)) (docs : List Document) (c : Counting) (wanted : Wanted) (old new : List ℕ) → IsPlainData (renamed_if_free files docs c wanted old new)
 free_plain files docs c wanted old new =
-    let defined = if not (is_defined files docs c wanted old) then Err UndefinedMacro else Ok (renamed files docs c wanted old new) in
+    let all = renamed files docs c wanted old new in
+    let exact = if not (are_renamed files docs c wanted old new) then Err InexactRename else Ok all in
+    let defined = if not (is_defined files docs c wanted old) then Err UndefinedMacro else exact in
     let free = if not (is_free files docs c wanted old new) then Err TakenName else defined in
     either_outcome (not (can_be_named wanted new)) (Err BadName) free tt
     (either_outcome (not (is_free files docs c wanted old new)) (Err TakenName) defined tt
-    (either_outcome (not (is_defined files docs c wanted old)) (Err UndefinedMacro) (Ok (renamed files docs c wanted old new)) tt (all_edits_plain files docs c wanted old new)))
+    (either_outcome (not (is_defined files docs c wanted old)) (Err UndefinedMacro) exact tt
+    (either_outcome (not (are_renamed files docs c wanted old new)) (Err InexactRename) (Ok all) tt (all_edits_plain files docs c wanted old new))))
 
 pub renamed_plain : (files : List (List ℕ × List ℕ)) (docs : List Document) (c : Counting) (d : Document) (o : Option Mention) (new : Option (List ℕ)) → IsPlainData (renamed_of files docs c d o new)
 renamed_plain files docs c d o None = tt
@@ -149,23 +152,13 @@ folds_plain d =
 
 -- ---- layout
 
-gap_plain : (c : Counting) (end : LineEnd) (words : List ℕ) (list : List Data) (g : Gap) → AllByRecursion HasNoFloat list → AllByRecursion HasNoFloat (with_gap c end words list g)
-gap_plain c end words list g p =
-    either_plain (bytes_eq (part g.from g.to words) (layout end g.is_last)) list (list ++ text_edit (range_of c words g.from g.to) (layout end g.is_last) ∷ []) p
-    (all_both HasNoFloat list (text_edit (range_of c words g.from g.to) (layout end g.is_last) ∷ []) p (refl, tt))
-
-gaps_plain : (c : Counting) (end : LineEnd) (words : List ℕ) (list : List Data) (p : PlacedPiece) → AllByRecursion HasNoFloat list → AllByRecursion HasNoFloat (with_gaps c end words list p)
-gaps_plain c end words list p q = fold_plain (with_gap c end words) (gap_plain c end words) (gaps words p) list q
-
-asked_gaps_plain : (c : Counting) (end : LineEnd) (words : List ℕ) (scope : Option Scope) (list : List Data) (p : PlacedPiece) → AllByRecursion HasNoFloat list →
-    AllByRecursion HasNoFloat (with_asked_gaps c end words scope list p)
-asked_gaps_plain c end words scope list p q = either_plain (is_asked scope p) (with_gaps c end words list p) list (gaps_plain c end words list p q) q
+kept_plain : (d : Document) (ps : List PlacedPiece) (es : List Edit) → has_float (if_kept d ps es) ≡ false
+kept_plain d ps es =
+    one_plain (is_made Nothing ps (edited d.counting es d.text)) (array (items_of (edit_values es))) null (items_plain (edit_values es) (all_mapped edit_value (λ e. refl) es)) refl
 
 pub formatted_plain : (d : Document) (m : Data) → has_float (formatted d m) ≡ false
 formatted_plain d m =
-    let add = with_asked_gaps d.counting (line_end d.text) d.text (scope_of d m) in
-    none_or (not (is_database d.name) || nat_lt 1073741824 (length d.text)) (array (items_of (fold add [] (pieces_of d.text))))
-    (items_plain (fold add [] (pieces_of d.text)) (fold_plain add (asked_gaps_plain d.counting (line_end d.text) d.text (scope_of d m)) (pieces_of d.text) [] tt))
+    none_or (not (is_database d.name) || nat_lt 1073741824 (length d.text)) (if_kept d (pieces_of d.text) (layout_edits d m)) (kept_plain d (pieces_of d.text) (layout_edits d m))
 
 -- ---- hints
 
@@ -210,7 +203,7 @@ kind_plain : (files : List (List ℕ × List ℕ)) (d : Document) (l : Link) (ki
     AllByRecursion HasNoFloat (with_kind files d l kind list name)
 kind_plain files d l Database list name p = named_plain files d l list name p
 kind_plain files d l Style list name p = named_plain files d l list name p
-kind_plain files d l Chapter list name p = link_to_plain d l list (full_name (folder d.name) l.kind name) p
+kind_plain files d l Chapter list name p = link_to_plain d l list (full_name (folder_before (folder d.name) name) l.kind name) p
 
 link_plain : (files : List (List ℕ × List ℕ)) (d : Document) (list : List Data) (l : Link) → AllByRecursion HasNoFloat list → AllByRecursion HasNoFloat (with_link files d list l)
 link_plain files d list l p =
@@ -224,13 +217,15 @@ links_plain files d =
 
 -- ---- errors about files
 
-fault_plain : (d : Document) (l : Link) (name : List ℕ) (list : List Data) (m : Message) → AllByRecursion HasNoFloat list → AllByRecursion HasNoFloat (with_fault d l name list m)
-fault_plain d l name list m p = pushed_plain (bytes_eq (faulty_file m) name) (fault_value (range_of d.counting d.text l.from l.to) (said_words m.said)) list refl p
+fault_plain : (count : ℕ) (d : Document) (l : Link) (name : List ℕ) (list : List Data) (m : Message) → AllByRecursion HasNoFloat list → AllByRecursion HasNoFloat (with_fault count d l name list m)
+fault_plain count d l name list m p = pushed_plain (bytes_eq (faulty_file m) name) (fault_value (range_of d.counting d.text l.from l.to) (fault_words count m.said)) list refl p
 
-faults_at_plain : (ms : List Message) (d : Document) (list : List Data) (l : Link) → AllByRecursion HasNoFloat list → AllByRecursion HasNoFloat (with_faults_at ms d list l)
-faults_at_plain ms d list l p = fold_plain (with_fault d l (linked_name d.text l)) (fault_plain d l (linked_name d.text l)) ms list p
+faults_at_plain : (shown : Shown) (d : Document) (list : List Data) (l : Link) → AllByRecursion HasNoFloat list → AllByRecursion HasNoFloat (with_faults_at shown d list l)
+faults_at_plain shown d list l p =
+    let count = length shown.files in
+    fold_plain (with_fault count d l (linked_name d.text l)) (fault_plain count d l (linked_name d.text l)) shown.messages list p
 
-pub faults_plain : (ms : List Message) (d : Document) (list : List Data) → AllByRecursion HasNoFloat list → AllByRecursion HasNoFloat (with_faults ms d list)
-faults_plain ms d list p =
-    either_plain (not (is_tex d.name) || not (any_fault ms) || nat_lt 1073741824 (length d.text)) list (fold (with_faults_at ms d) list (links d.text)) p
-    (fold_plain (with_faults_at ms d) (faults_at_plain ms d) (links d.text) list p)
+pub faults_plain : (shown : Shown) (d : Document) (list : List Data) → AllByRecursion HasNoFloat list → AllByRecursion HasNoFloat (with_faults shown d list)
+faults_plain shown d list p =
+    either_plain (not (is_tex d.name) || not (any_fault shown.messages) || nat_lt 1073741824 (length d.text)) list (fold (with_faults_at shown d) list (links d.text)) p
+    (fold_plain (with_faults_at shown d) (faults_at_plain shown d) (links d.text) list p)

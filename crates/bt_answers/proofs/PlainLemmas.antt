@@ -1,6 +1,6 @@
 -- What the desk says has no floats, and its notes are no answers.
 use Rattle.std.proofs.Common.{◌≡◌, ℕ, List, [], ◌∷◌, map, length, refl, Bool, false, ◌||◌, Option, Some, None}
-use Rattle.std.specs.Prelude.{filter_map, not, nat_lt}
+use Rattle.std.specs.Prelude.{filter_map, not, nat_lt, is_some}
 use Rattle.std.specs.List.{AllByRecursion, cons_option}
 use Rattle.serde_json.specs.Written.{has_float}
 use Rattle.serde_json.specs.Data.{array}
@@ -11,19 +11,24 @@ use Rattle.bt_positions.specs.declared.counting.Counting.{Counting}
 use Rattle.bt_talk.specs.Handled.{HasNoFloat}
 use Rattle.bt_documents.specs.declared.document.Document.{Document}
 use Rattle.bt_diagnostics.specs.declared.diagnostic.Diagnostic.{Diagnostic}
-use Rattle.bt_lenses.specs.declared.origin.Origin.{Origin}
-use Rattle.bt_lenses.specs.declared.origin.FileLine.{FileLine}
+use Rattle.bt_remarks.specs.declared.lens.Origin.{Origin}
+use Rattle.bt_remarks.specs.declared.lens.FileLine.{FileLine}
 use Rattle.bt_answers.specs.Lensing.{line_or_null, origin_value}
 use Rattle.bt_places.specs.Shapes.{diagnostic}
 use Rattle.bt_answers.specs.Related.{diagnostic_from, place_of_entry, begins_before, related_in, related, diagnostics_in}
 use Rattle.bt_positions.specs.Positions.{offset_of}
+use Rattle.bt_places.specs.Shown.{Shown}
+use Rattle.bt_places.specs.Hover.{key_at, trimmed_start, hover_at}
+use Rattle.serde_json.specs.Find.{as_null}
+use Rattle.bt_positions.specs.declared.indexed_text.Position.{Position}
+use Rattle.bt_answers.specs.Uncited.{is_uncited, uncited_hover, uncited_of, uncited_at, hovered_at}
 use Rattle.bt_places.specs.Entries.{name_of, symbol_kind, is_database, item_around}
 use Rattle.bt_shapes.proofs.PlainLists.{all_mapped}
-use Rattle.bt_places.proofs.PlainLists.{items_plain, none_or, either_plain}
+use Rattle.bt_places.proofs.PlainLists.{items_plain, none_or, some_or_null, either_plain}
 use Rattle.bt_places.proofs.CompletingPlain.{one_plain}
 use Rattle.bt_answers.specs.Outline.{symbol_at, symbol_of, symbols_in, symbols_of}
 use Rattle.bt_shapes.proofs.PlainLists.{more_plain}
-use Rattle.bt_places.proofs.PlainLemmas.{diagnostics_plain}
+use Rattle.bt_places.proofs.PlainLemmas.{diagnostics_plain, hover_lines_plain}
 
 related_in_plain : (d : Document) (f : Diagnostic) (p : Option PlacedPiece) → has_float (related_in d f p) ≡ false
 related_in_plain d f None = refl
@@ -56,3 +61,16 @@ line_plain (Some at) = refl
 pub origin_plain : (origin : Option Origin) → has_float (origin_value origin) ≡ false
 origin_plain None = refl
 origin_plain (Some origin) = rw (line_plain origin.field) (rw (line_plain origin.word) refl)
+
+-- ---- hovers
+
+uncited_plain : (files : List (List ℕ × List ℕ)) (plain : Bool) (d : Document) (at : Position) → has_float (uncited_at files plain d at) ≡ false
+uncited_plain files plain d at =
+    let key = key_at d at in
+    none_or (not (is_database d.name) || not d.in_step) (uncited_of files plain key) (some_or_null (is_uncited files key) (uncited_hover plain key) refl)
+
+pub hovered_plain : (shown : Shown) (plain : Bool) (d : Document) (at : Position) → has_float (hovered_at shown plain d at) ≡ false
+hovered_plain shown plain d at =
+    let lines = hover_at shown.entry_text plain d at in
+    one_plain (is_some (as_null lines)) (uncited_at shown.files plain d at) lines (uncited_plain shown.files plain d at)
+    (hover_lines_plain plain (trimmed_start (shown.entry_text (key_at d at))))

@@ -13,6 +13,7 @@ use Rattle.bt_mentions.specs.declared.linking.Link.{Link}
 use Rattle.bt_mentions.specs.Databases.{part}
 use Rattle.bt_mentions.specs.Links.{links}
 use Rattle.bt_places.specs.Entries.{is_tex}
+use Rattle.bt_places.specs.Shown.{Shown}
 use Rattle.bt_answers.specs.Links.{full_name}
 use Rattle.bt_places.specs.Shapes.{text, range_of}
 
@@ -57,18 +58,24 @@ fault_value range words =
     object (member (codes "message") (text words) (member (codes "range") range
     (member (codes "severity") (number (unsigned 1)) (member (codes "source") (string (codes "bibtex")) no_members))))
 
+-- what an error about a file says, if the paper has this number of files; if it has 64, the file may be there
+abbrev pub fault_words : ℕ → Said → List ℕ
+fault_words count said =
+    if nat_lt count 64 then said_words said
+    else said_words said ++ codes ". This paper has 64 files, and bibtex-lsp can open no more"
+
 -- a list with the diagnostic of a message at a link, if it is about the file of this name
-abbrev pub with_fault : Document → Link → List ℕ → List Data → Message → List Data
-with_fault d l name list m =
-    if bytes_eq (faulty_file m) name then list ++ fault_value (range_of d.counting d.text l.from l.to) (said_words m.said) ∷ []
+abbrev pub with_fault : ℕ → Document → Link → List ℕ → List Data → Message → List Data
+with_fault count d l name list m =
+    if bytes_eq (faulty_file m) name then list ++ fault_value (range_of d.counting d.text l.from l.to) (fault_words count m.said) ∷ []
     else list
 
 -- a list with the diagnostics of messages at a link of a document
-abbrev pub with_faults_at : List Message → Document → List Data → Link → List Data
-with_faults_at messages d list l = fold (with_fault d l (linked_name d.text l)) list messages
+abbrev pub with_faults_at : Shown → Document → List Data → Link → List Data
+with_faults_at shown d list l = fold (with_fault (length shown.files) d l (linked_name d.text l)) list shown.messages
 
 -- A list with the errors about files at the names of these files in a document, if it is a text of LaTeX of at most 1 GiB.
-abbrev pub with_faults : List Message → Document → List Data → List Data
-with_faults messages d list =
-    if not (is_tex d.name) || not (any_fault messages) || nat_lt 1073741824 (length d.text) then list
-    else fold (with_faults_at messages d) list (links d.text)
+abbrev pub with_faults : Shown → Document → List Data → List Data
+with_faults shown d list =
+    if not (is_tex d.name) || not (any_fault shown.messages) || nat_lt 1073741824 (length d.text) then list
+    else fold (with_faults_at shown d) list (links d.text)

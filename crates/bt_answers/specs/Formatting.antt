@@ -18,8 +18,11 @@ use Rattle.bt_answers.specs.declared.formatting.LineEnd.{LineEnd}
 use Rattle.bt_answers.specs.declared.formatting.LineEnd.TheVariants.{Feed, ReturnFeed}
 use Rattle.bt_places.specs.Parameters.{position_at}
 use Rattle.bt_places.specs.Entries.{is_database}
-use Rattle.bt_answers.specs.Renaming.{text_edit}
-use Rattle.bt_places.specs.Shapes.{range_of}
+use Rattle.bt_edited.specs.declared.edits.Edit.{Edit}
+use Rattle.bt_edited.specs.declared.changes.Change.TheVariants.{Nothing}
+use Rattle.bt_edited.specs.Edits.{edit_of, edited}
+use Rattle.bt_edited.specs.Becomes.{is_made}
+use Rattle.bt_answers.specs.EditValues.{edit_values}
 
 -- how the lines of a text end: as the first one with a line feed does
 abbrev pub line_end : List ℕ → LineEnd
@@ -31,15 +34,15 @@ abbrev pub layout : LineEnd → Bool → List ℕ
 layout Feed is_last = if is_last then codes "\n" else codes "\n  "
 layout ReturnFeed is_last = if is_last then codes "\r\n" else codes "\r\n  "
 
--- a list with the edit of a gap, unless it is laid out already
-abbrev pub with_gap : Counting → LineEnd → List ℕ → List Data → Gap → List Data
-with_gap c end words list g =
-    if bytes_eq (part g.from g.to words) (layout end g.is_last) then list
-    else list ++ text_edit (range_of c words g.from g.to) (layout end g.is_last) ∷ []
+-- edits with the one of a gap, unless it is laid out already
+abbrev pub with_gap : Counting → LineEnd → List ℕ → List Edit → Gap → List Edit
+with_gap c end words es g =
+    if bytes_eq (part g.from g.to words) (layout end g.is_last) then es
+    else es ++ edit_of c words g.from g.to (layout end g.is_last) ∷ []
 
--- a list with the edits of a piece
-abbrev pub with_gaps : Counting → LineEnd → List ℕ → List Data → PlacedPiece → List Data
-with_gaps c end words list p = fold (with_gap c end words) list (gaps words p)
+-- adds the edits of a piece
+abbrev pub with_gaps : Counting → LineEnd → List ℕ → List Edit → PlacedPiece → List Edit
+with_gaps c end words es p = fold (with_gap c end words) es (gaps words p)
 
 -- Whether a part of a text touches a piece that goes from one offset to another: it begins in the piece, or the piece begins
 -- in it.
@@ -51,9 +54,9 @@ abbrev pub is_asked : Option Scope → PlacedPiece → Bool
 is_asked None p = true
 is_asked (Some s) p = is_touched s p.start.place p.end.place
 
--- a list with the edits of a piece, if it is to be laid out
-abbrev pub with_asked_gaps : Counting → LineEnd → List ℕ → Option Scope → List Data → PlacedPiece → List Data
-with_asked_gaps c end words scope list p = if is_asked scope p then with_gaps c end words list p else list
+-- adds the edits of a piece, if it is to be laid out
+abbrev pub with_asked_gaps : Counting → LineEnd → List ℕ → Option Scope → List Edit → PlacedPiece → List Edit
+with_asked_gaps c end words scope es p = if is_asked scope p then with_gaps c end words es p else es
 
 -- the part of a document between two positions
 abbrev pub scope_between : Document → Option Position → Option Position → Option Scope
@@ -68,8 +71,18 @@ scope_of d m =
     scope_between d (position_at (codes "/params/range/start/line") (codes "/params/range/start/character") m)
     (position_at (codes "/params/range/end/line") (codes "/params/range/end/character") m)
 
--- The edits that lay out a document, or the items that the message's range touches, if it is a database of at most 1 GiB.
+-- the edits that lay out a document, or the items that a message's range touches
+abbrev pub layout_edits : Document → Data → List Edit
+layout_edits d m =
+    fold (with_asked_gaps d.counting (line_end d.text) d.text (scope_of d m)) [] (pieces_of d.text)
+
+-- edits as a value, if a document with these pieces has the same after the edits
+abbrev pub if_kept : Document → List PlacedPiece → List Edit → Data
+if_kept d ps es =
+    if is_made Nothing ps (edited d.counting es d.text) then array (items_of (edit_values es)) else null
+
+-- The edits, if the document is a database of at most 1 GiB, and has the same items after them.
 abbrev pub formatted : Document → Data → Data
 formatted d m =
     if not (is_database d.name) || nat_lt 1073741824 (length d.text) then null
-    else array (items_of (fold (with_asked_gaps d.counting (line_end d.text) d.text (scope_of d m)) [] (pieces_of d.text)))
+    else if_kept d (pieces_of d.text) (layout_edits d m)

@@ -6,7 +6,7 @@ use Rattle.bt_text.specs.NameList.{has_name, same_name}
 use Rattle.bt_positions.specs.declared.counting.Counting.{Counting}
 use Rattle.bt_documents.specs.declared.document.Document.{Document}
 use Rattle.bt_mentions.specs.declared.mention.Role.{Role}
-use Rattle.bt_mentions.specs.declared.mention.Role.TheVariants.{Key, Crossref, Citation, Definition, Macro}
+use Rattle.bt_mentions.specs.declared.mention.Role.TheVariants.{Key, Crossref, Number, Citation, Definition, Macro}
 use Rattle.bt_mentions.specs.declared.mention.Mention.{Mention}
 use Rattle.bt_mentions.specs.Databases.{part}
 use Rattle.bt_answers.specs.declared.hints.Names.{Names}
@@ -38,6 +38,7 @@ with_name names name = if is_some (same_name name names) then names else names +
 abbrev pub is_entry : Role → Bool
 is_entry Key = true
 is_entry Crossref = false
+is_entry Number = false
 is_entry Citation = false
 is_entry Definition = false
 is_entry Macro = false
@@ -46,6 +47,7 @@ is_entry Macro = false
 abbrev pub asks : Role → Bool
 asks Key = false
 asks Crossref = true
+asks Number = true
 asks Citation = true
 asks Definition = false
 asks Macro = false

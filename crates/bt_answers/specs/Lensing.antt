@@ -3,9 +3,9 @@ use Rattle.std.specs.Prelude.{ℕ, List, map, codes, Option, Some, None}
 use Rattle.serde_json.specs.Data.{Data, null, string, array, object, member, no_members}
 use Rattle.serde_json.specs.View.{items_of}
 use Rattle.bt_positions.specs.declared.indexed_text.Position.{Position}
-use Rattle.bt_lenses.specs.declared.ran.Lens.{Lens}
-use Rattle.bt_lenses.specs.declared.origin.Origin.{Origin}
-use Rattle.bt_lenses.specs.declared.origin.FileLine.{FileLine}
+use Rattle.bt_remarks.specs.declared.lens.Lens.{Lens}
+use Rattle.bt_remarks.specs.declared.lens.Origin.{Origin}
+use Rattle.bt_remarks.specs.declared.lens.FileLine.{FileLine}
 use Rattle.bt_shapes.specs.Shapes.{text, range, location}
 
 -- the begin of a line, as a range

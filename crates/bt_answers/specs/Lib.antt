@@ -3,11 +3,14 @@ pub mod Hints
 pub mod Keys
 pub mod Related
 pub mod Faults
+pub mod Uncited
 pub mod Lending
 pub mod References
 pub mod Renaming
 pub mod Symbols
+pub mod EditValues
 pub mod Formatting
 pub mod Outline
 pub mod Links
 pub mod Folding
+pub mod laws

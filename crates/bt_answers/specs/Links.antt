@@ -71,9 +71,16 @@ with_link_to d link list target =
 abbrev pub with_file : Document → Link → List ℕ → List Data → List ℕ → List ℕ → List Data
 with_file d link suffix list uri words = if ends_with suffix uri then with_link_to d link list uri else list
 
--- a list with the link to another part of the text, in the document's folder
+-- The folder from which a name in a text of this folder leads to another text. LaTeX looks from the paper's folder, so in
+-- `chapters/`, `chapters/two` isn't in a folder `chapters/chapters/`.
+abbrev pub folder_before : List ℕ → List ℕ → List ℕ
+folder_before own name =
+    let start = length own - length (folder name) in
+    if bytes_eq (drop start own) (folder name) && behind_slash (take start own) == 0 then take start own else own
+
+-- a list with the link to another part of the text
 abbrev pub with_part : Document → Link → List Data → List ℕ → List Data
-with_part d link list name = with_link_to d link list (full_name (folder d.name) link.kind name)
+with_part d link list name = with_link_to d link list (full_name (folder_before (folder d.name) name) link.kind name)
 
 -- a list with the link to the file of the run that has this name
 abbrev pub with_named : List (List ℕ × List ℕ) → Document → Link → List Data → List ℕ → List Data

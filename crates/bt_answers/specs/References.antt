@@ -7,7 +7,7 @@ use Rattle.bt_positions.specs.declared.counting.Counting.{Counting}
 use Rattle.bt_positions.specs.declared.indexed_text.Position.{Position}
 use Rattle.bt_documents.specs.declared.document.Document.{Document}
 use Rattle.bt_mentions.specs.declared.mention.Role.{Role}
-use Rattle.bt_mentions.specs.declared.mention.Role.TheVariants.{Key, Crossref, Citation, Definition, Macro}
+use Rattle.bt_mentions.specs.declared.mention.Role.TheVariants.{Key, Crossref, Number, Citation, Definition, Macro}
 use Rattle.bt_mentions.specs.declared.mention.Mention.{Mention}
 use Rattle.bt_mentions.specs.Databases.{part}
 use Rattle.bt_answers.specs.declared.references.Wanted.{Wanted}
@@ -24,6 +24,7 @@ use Rattle.bt_places.specs.Visiting.{with_files, with_texts, is_any}
 abbrev pub is_definition : Role → Bool
 is_definition Key = false
 is_definition Crossref = false
+is_definition Number = false
 is_definition Citation = false
 is_definition Definition = true
 is_definition Macro = false
@@ -32,6 +33,7 @@ is_definition Macro = false
 abbrev pub is_use : Role → Bool
 is_use Key = false
 is_use Crossref = true
+is_use Number = true
 is_use Citation = true
 is_use Definition = false
 is_use Macro = true
@@ -48,7 +50,7 @@ is_wanted MacroUses role = is_use role && not (is_key role)
 abbrev pub is_mention : Wanted → List ℕ → List ℕ → Mention → Bool
 is_mention wanted name text m = is_wanted wanted m.role && is_same_folded (part m.from m.to text) name
 
--- a list with the place of a mention, if it is one of the name; `units` has those of each file's text
+-- a list with the place of a mention, if it is one of the name; `units` gives the units of each file's text
 abbrev pub with_reference : (List ℕ → Counting) → Wanted → List ℕ → List ℕ → List ℕ → List Data → Mention → List Data
 with_reference units wanted name uri text list m =
     if is_mention wanted name text m then list ++ location uri (range_of (units uri) text m.from m.to) ∷ [] else list

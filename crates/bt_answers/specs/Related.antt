@@ -1,5 +1,5 @@
 -- Where the entry of a diagnostic begins.
-use Rattle.std.specs.Prelude.{ℕ, min, nat_lt, Bool, false, ◌||◌, not, if◌then◌else◌, List, [], ◌∷◌, map, length, codes, Option, Some, None, unwrap_or, option_and_then}
+use Rattle.std.specs.Prelude.{ℕ, min, nat_le, nat_lt, Bool, false, ◌||◌, not, if◌then◌else◌, List, [], ◌∷◌, map, length, codes, Option, Some, None, unwrap_or, option_and_then}
 use Rattle.serde_json.specs.Data.{Data, number, unsigned, string, array, item, no_items, object, member, no_members}
 use Rattle.serde_json.specs.Find.{pointer, as_bool}
 use Rattle.bt_bib.specs.BibText.{pieces_of}
@@ -50,6 +50,11 @@ related_to d f p = if begins_before d f p then diagnostic_from f (place_of_entry
 abbrev pub related_in : Document → Diagnostic → Option PlacedPiece → Data
 related_in d f None = diagnostic f
 related_in d f (Some p) = related_to d f p
+
+-- the first piece, unless it begins after a place
+abbrev pub first_around : ℕ → List PlacedPiece → Option PlacedPiece
+first_around place [] = None
+first_around place (p ∷ ps) = if nat_le p.start.place place then Some p else None
 
 -- a diagnostic in a document that consists of these pieces
 abbrev pub related : Document → List PlacedPiece → Diagnostic → Data

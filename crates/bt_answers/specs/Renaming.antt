@@ -1,32 +1,58 @@
 -- Renames a key or a macro.
-use Rattle.std.specs.Prelude.{ℕ, nat_lt, ◌||◌, not, Bool, true, false, if◌then◌else◌, List, [], ◌∷◌, ◌++◌, length, Option, Some, None, Result, Ok, Err}
-use Rattle.std.specs.List.{list_all}
+use Rattle.std.specs.Prelude.{ℕ, nat_lt, ◌==◌, ◌&&◌, ◌||◌, not, Bool, true, false, if◌then◌else◌, List, [], ◌∷◌, ◌++◌, length, Option, Some, None, Result, Ok, Err}
+use Rattle.std.specs.List.{fold, list_all}
 use Rattle.serde_json.specs.Data.{Data, null}
 use Rattle.bt_text.specs.CaseFolding.{is_same_folded}
 use Rattle.bt_text.specs.NameBytes.{is_name}
 use Rattle.bt_positions.specs.declared.counting.Counting.{Counting}
 use Rattle.bt_positions.specs.declared.indexed_text.Position.{Position}
 use Rattle.bt_rpc.specs.declared.answers.RpcError.{RpcError}
-use Rattle.bt_rpc.specs.declared.answers.RpcError.TheVariants.{InvalidParams, BadName, TakenName, UndefinedMacro}
+use Rattle.bt_rpc.specs.declared.answers.RpcError.TheVariants.{InvalidParams, BadName, TakenName, UndefinedMacro, InexactRename}
+use Rattle.bt_bib.specs.BibText.{pieces_of}
 use Rattle.bt_documents.specs.declared.document.Document.{Document}
+use Rattle.bt_edited.specs.declared.edits.Edit.{Edit}
+use Rattle.bt_edited.specs.declared.changes.Change.{Change}
+use Rattle.bt_edited.specs.declared.changes.Change.TheVariants as changes
+use Rattle.bt_edited.specs.Edits.{edit_of, edited}
+use Rattle.bt_edited.specs.Becomes.{is_made}
+use Rattle.bt_answers.specs.EditValues.{edit_values}
 use Rattle.bt_mentions.specs.KeyBytes.{is_key_byte}
+use Rattle.bt_mentions.specs.declared.mention.Role.{Role}
+use Rattle.bt_mentions.specs.declared.mention.Role.TheVariants.{Key, Crossref, Number, Citation, Definition, Macro}
 use Rattle.bt_mentions.specs.declared.mention.Mention.{Mention}
 use Rattle.bt_mentions.specs.Databases.{part}
 use Rattle.bt_answers.specs.declared.references.Wanted.{Wanted}
-use Rattle.bt_answers.specs.declared.renaming.Renaming.{Renaming}
+use Rattle.bt_answers.specs.declared.name_edits.Renaming.{Renaming}
 use Rattle.bt_answers.specs.declared.references.Wanted.TheVariants.{Keys, Macros, Definitions, KeyUses, MacroUses}
+use Rattle.bt_style_answers.specs.declared.references.Lent.TheVariants as lent
 use Rattle.bt_places.specs.Editor.{counting_in}
-use Rattle.bt_places.specs.Mentioning.{is_key, mention_at}
-use Rattle.bt_places.specs.Picking.{with_picked}
+use Rattle.bt_places.specs.Entries.{is_database}
+use Rattle.bt_places.specs.Mentioning.{is_key, mention_at, mentions_of}
+use Rattle.bt_answers.specs.Lending.{with_lent}
 use Rattle.bt_answers.specs.References.{is_mention, is_mentioned, wanted_of}
 use Rattle.bt_places.specs.Shapes.{range_of}
 use Rattle.bt_places.specs.Visiting.{with_files, with_texts, is_any}
 pub use Rattle.bt_shapes.specs.Shapes.{text_edit, file_edit, workspace_edit}
 
--- a list with the edit of a mention, if it is one of the old name; `units` has those of each file's text
-abbrev pub with_edit : (List ℕ → Counting) → Wanted → List ℕ → List ℕ → List ℕ → List ℕ → List Data → Mention → List Data
-with_edit units wanted old new uri words list m =
-    if is_mention wanted old words m then list ++ text_edit (range_of (units uri) words m.from m.to) new ∷ [] else list
+-- how a mention of this role spells a name: a number becomes a text in braces
+abbrev pub spelled : Role → List ℕ → List ℕ
+spelled Key name = name
+spelled Crossref name = name
+spelled Number name = 123 ∷ name ++ 125 ∷ []
+spelled Citation name = name
+spelled Definition name = name
+spelled Macro name = name
+
+-- edits with the one of a mention, if it is one of the old name
+abbrev pub with_edit : Counting → Wanted → List ℕ → List ℕ → List ℕ → List Edit → Mention → List Edit
+with_edit c wanted old new words es m =
+    if is_mention wanted old words m then es ++ edit_of c words m.from m.to (spelled m.role new) ∷ [] else es
+
+-- the edits that rename the mentions of a file of at most 1 GiB; `units` gives the units of each file's text
+abbrev pub name_edits : (List ℕ → Counting) → Wanted → List ℕ → List ℕ → List ℕ → List ℕ → List Edit
+name_edits units wanted old new uri words =
+    if nat_lt 1073741824 (length words) then []
+    else fold (with_edit (units uri) wanted old new words) [] (mentions_of uri words)
 
 -- a list with the edits of a file, if there are any
 abbrev pub with_file_edit : List Data → List ℕ → List Data → List Data
@@ -35,7 +61,37 @@ with_file_edit list uri edits = if is_any edits then list ++ file_edit uri edits
 -- a list with the edits that rename the mentions of a file
 abbrev pub with_renamed : (List ℕ → Counting) → Wanted → List ℕ → List ℕ → List Data → List ℕ → List ℕ → List Data
 with_renamed units wanted old new list uri words =
-    with_file_edit list uri (with_picked (with_edit units wanted old new) [] uri words)
+    with_file_edit list uri (edit_values (name_edits units wanted old new uri words))
+
+-- the text of a file after its edits
+abbrev pub renamed_text : (List ℕ → Counting) → Wanted → List ℕ → List ℕ → List ℕ → List ℕ → Option (List ℕ)
+renamed_text units wanted old new uri words = edited (units uri) (name_edits units wanted old new uri words) words
+
+-- what is to become of items
+abbrev pub change_of : Wanted → List ℕ → List ℕ → Change
+change_of Keys old new = changes.Key old new
+change_of Macros old new = changes.Macro old new
+change_of Definitions old new = changes.Macro old new
+change_of KeyUses old new = changes.Key old new
+change_of MacroUses old new = changes.Macro old new
+
+-- whether the edits of a database change the name in its items and nothing else
+abbrev pub is_database_renamed : (List ℕ → Counting) → Wanted → List ℕ → List ℕ → List ℕ → List ℕ → Bool
+is_database_renamed units wanted old new uri words =
+    is_made (change_of wanted old new) (pieces_of words) (renamed_text units wanted old new uri words)
+
+-- the same of a file, if it is a database
+abbrev pub is_renamed : (List ℕ → Counting) → Wanted → List ℕ → List ℕ → List ℕ → List ℕ → Bool
+is_renamed units wanted old new uri words =
+    not (is_database uri) || is_database_renamed units wanted old new uri words
+
+-- the same of files before and of one more
+abbrev pub also_renamed : (List ℕ → Counting) → Wanted → List ℕ → List ℕ → Bool → List ℕ × List ℕ → Bool
+also_renamed units wanted old new before f = before && is_renamed units wanted old new f.0 f.1
+
+-- the same of all files
+abbrev pub are_renamed : List (List ℕ × List ℕ) → List Document → Counting → Wanted → List ℕ → List ℕ → Bool
+are_renamed files docs c wanted old new = fold (also_renamed (counting_in c docs) wanted old new) true files
 
 -- whether a text can be a key in any entry and citation
 abbrev pub is_new_key : List ℕ → Bool
@@ -60,30 +116,42 @@ renamed files docs c wanted old new =
 abbrev pub is_free : List (List ℕ × List ℕ) → List Document → Counting → Wanted → List ℕ → List ℕ → Bool
 is_free files docs c wanted old new = is_same_folded new old || not (is_mentioned files docs c wanted new)
 
--- whether files define what is looked for; a key needs no entry
+-- whether the style defines a macro
+abbrev pub is_lent : List (List ℕ × List ℕ) → List Document → Counting → List ℕ → Bool
+is_lent files docs c name = is_any (with_files (with_lent (counting_in c docs) lent.Macro name) files [])
+
+-- whether databases define a macro, and the style doesn't: uses before the `@string` have the style's value
+abbrev pub is_own : List (List ℕ × List ℕ) → List Document → Counting → List ℕ → Bool
+is_own files docs c name = is_mentioned files docs c Definitions name && not (is_lent files docs c name)
+
+-- whether databases alone define what is looked for; a key needs no entry
 abbrev pub is_defined : List (List ℕ × List ℕ) → List Document → Counting → Wanted → List ℕ → Bool
 is_defined files docs c Keys old = true
-is_defined files docs c Macros old = is_mentioned files docs c Definitions old
-is_defined files docs c Definitions old = is_mentioned files docs c Definitions old
+is_defined files docs c Macros old = is_own files docs c old
+is_defined files docs c Definitions old = is_own files docs c old
 is_defined files docs c KeyUses old = true
-is_defined files docs c MacroUses old = is_mentioned files docs c Definitions old
+is_defined files docs c MacroUses old = is_own files docs c old
 
--- The edits. They are refused if the new name can't be one or isn't free, and for a macro that only the style defines: the
--- style's text isn't changed, so all uses of the macro would become undefined.
+-- The edits. They are refused if the new name can't be one or isn't free, and for a macro that the style defines: its text
+-- isn't changed, so uses of the macro would become undefined. They are refused, too, if the items of a database would not be
+-- those before with the name changed.
 abbrev pub renamed_if_free : List (List ℕ × List ℕ) → List Document → Counting → Wanted → List ℕ → List ℕ → Result Data RpcError
 renamed_if_free files docs c wanted old new =
     if not (can_be_named wanted new) then Err BadName
     else (if not (is_free files docs c wanted old new) then Err TakenName
     else (if not (is_defined files docs c wanted old) then Err UndefinedMacro
-    else Ok (renamed files docs c wanted old new)))
+    else (if not (are_renamed files docs c wanted old new) then Err InexactRename
+    else Ok (renamed files docs c wanted old new))))
 
 -- the same of what is renamed
 abbrev pub renamed_by : List (List ℕ × List ℕ) → Renaming → Result Data RpcError
 renamed_by files r = renamed_if_free files r.editor.documents.now r.editor.counting r.wanted r.old.now r.new.now
 
--- whether a mention has a name that can change; a number in a value has none
+-- whether a mention has a name that can change; an empty key has none, nor has a number that isn't a key
 abbrev pub is_named : List ℕ → Mention → Bool
-is_named text m = is_key m.role || is_name (part m.from m.to text)
+is_named text m =
+    let name = part m.from m.to text in
+    not (length name == 0) && (is_key m.role || is_name name)
 
 -- the edits that give the name of a mention in a document a new name
 abbrev pub renamed_of : List (List ℕ × List ℕ) → List Document → Counting → Document → Option Mention → Option (List ℕ) →

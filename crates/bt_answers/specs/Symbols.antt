@@ -5,7 +5,7 @@ use Rattle.serde_json.specs.View.{items_of}
 use Rattle.bt_text.specs.CaseFolding.{is_same_folded}
 use Rattle.bt_positions.specs.declared.counting.Counting.{Counting}
 use Rattle.bt_mentions.specs.declared.mention.Role.{Role}
-use Rattle.bt_mentions.specs.declared.mention.Role.TheVariants.{Key, Crossref, Citation, Definition, Macro}
+use Rattle.bt_mentions.specs.declared.mention.Role.TheVariants.{Key, Crossref, Number, Citation, Definition, Macro}
 use Rattle.bt_mentions.specs.declared.mention.Mention.{Mention}
 use Rattle.bt_mentions.specs.Databases.{part}
 use Rattle.bt_documents.specs.declared.document.Document.{Document}
@@ -30,6 +30,7 @@ abbrev pub number_of : Role → ℕ
 number_of Key = 20
 number_of Definition = 14
 number_of Crossref = 0
+number_of Number = 0
 number_of Citation = 0
 number_of Macro = 0
 
@@ -48,7 +49,7 @@ abbrev pub symbol_at : Counting → List ℕ → List ℕ → Mention → Data
 symbol_at c uri words m =
     symbol (part m.from m.to words) (number_of m.role) (location uri (range_of c words m.from m.to))
 
--- a list with the symbol of a mention, if it is one that is asked for; `units` has those of each file's text
+-- a list with the symbol of a mention, if it is one that is asked for; `units` gives the units of each file's text
 abbrev pub with_symbol : (List ℕ → Counting) → List ℕ → List ℕ → List ℕ → List Data → Mention → List Data
 with_symbol units query uri words list m =
     if is_symbol query words m then list ++ symbol_at (units uri) uri words m ∷ [] else list

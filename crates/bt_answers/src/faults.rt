@@ -6,16 +6,24 @@ ghost use Rattle.std.specs.List.{fold, list_any};
 ghost use Rattle.serde_json.specs.View.{view};
 ghost use Rattle.bt_log.specs.Wording.{said_words};
 ghost use Rattle.bt_places.specs.Shapes.{range_of};
-ghost use Rattle.bt_answers.specs.Faults.{is_error, file_said, faulty_file, is_some_text, is_fault, any_fault, linked_name, fault_value, with_fault, with_faults_at, with_faults};
+ghost use Rattle.bt_answers.specs.Faults.{is_error, file_said, faulty_file, is_some_text, is_fault, any_fault, linked_name, fault_words, fault_value, with_fault, with_faults_at, with_faults};
 
 use crate::links::full_name;
 use bt_documents::Document;
 use bt_log::{Message, Rank, Said, add_said};
 use bt_mentions::{Link, links, part};
-use bt_places::{SHOWN_BYTES, is_tex, range_of, shown, with_value};
+use bt_places::{Paper, SHOWN_BYTES, is_tex, range_of, shown, with_value};
 use bt_text::Bytes;
 use serde_json::{Value, json};
 use std::alloc::{AllocError, Global};
+
+/// A link of a document, and the name of the file that it means.
+#[derive(Clone, Copy)]
+struct Named<'a> {
+    document: &'a Document,
+    link: Link,
+    name: &'a [u8],
+}
 
 fn is_error(rank: Rank) -> bool
     ensures { result ≡ is_error rank }
@@ -77,12 +85,25 @@ pub fn linked_name(alloc: Global, text: &[u8], link: Link) -> Result<Bytes, Allo
     full_name(alloc, &[], link.kind, part(text, link.from, link.to))
 }
 
-/// What a message says, without its place.
-pub fn said(alloc: Global, message: &Message) -> Result<Bytes, AllocError>
-    ensures { IfOk result (λ words. words ≡ said_words message.now.said) }
+/// The most files of a paper: a session takes no more.
+const MOST_FILES: usize = 64;
+
+fn said(alloc: Global, said: &Said) -> Result<Bytes, AllocError>
+    ensures { IfOk result (λ words. words ≡ said_words said.now) }
 {
     let mut words = Bytes::new(alloc);
-    add_said(&mut words, &message.said)?;
+    add_said(&mut words, said)?;
+    Ok(words)
+}
+
+/// What an error about a file says, in a paper with this many files. With 64, the file may well be there: a paper can have no more.
+pub fn fault_words(alloc: Global, count: usize, what: &Said) -> Result<Bytes, AllocError>
+    ensures { IfOk result (λ words. words ≡ fault_words count what.now) }
+{
+    let mut words = said(alloc, what)?;
+    if count >= MOST_FILES {
+        words.append(b". This paper has 64 files, and bibtex-lsp can open no more")?;
+    }
     Ok(words)
 }
 
@@ -113,89 +134,95 @@ fn with_fault_at(
 
 fn with_fault(
     alloc: Global,
-    document: &Document,
-    link: Link,
-    name: &[u8],
+    named: Named,
+    count: usize,
     list: Vec<Value>,
     message: &Message,
 ) -> Result<Vec<Value>, AllocError>
-    requires { 2 * length document.now.text < 2 ^ 64 }
-    ensures { IfOk result (λ all. map view all.items ≡ with_fault document.now link name.now (map view list.items) message.now) }
+    requires { 2 * length named.document.now.text < 2 ^ 64 }
+    ensures { IfOk result (λ all. map view all.items ≡ with_fault count named.entry.document.now named.entry.link
+        named.entry.name.now (map view list.items) message.now) }
 {
-    if faulty_file(message) != name {
+    if faulty_file(message) != named.name {
         return Ok(list);
     }
-    let words = said(alloc, message)?;
-    let all = with_fault_at(alloc, document, link, list, words.as_slice())?;
+    let words = fault_words(alloc, count, &message.said)?;
+    let all = with_fault_at(alloc, named.document, named.link, list, words.as_slice())?;
     Ok(all)
 }
 
 fn with_named_faults(
     alloc: Global,
     messages: &[Message],
-    document: &Document,
-    link: Link,
-    name: &[u8],
+    count: usize,
+    named: Named,
     list: Vec<Value>,
 ) -> Result<Vec<Value>, AllocError>
-    requires { 2 * length document.now.text < 2 ^ 64 }
+    requires { 2 * length named.document.now.text < 2 ^ 64 }
     ensures { IfOk result (λ all. map view all.items ≡
-        fold (with_fault document.now link name.now) (map view list.items) messages.now) }
+        fold (with_fault count named.entry.document.now named.entry.link named.entry.name.now) (map view list.items) messages.now) }
 {
     let mut all = list;
     'messages: for message in messages {
-        all = with_fault(alloc, document, link, name, all, message)?;
+        all = with_fault(alloc, named, count, all, message)?;
     }
     Ok(all)
 }
 
-fn with_faults_at(
+fn with_faults_at<P: Paper>(
     alloc: Global,
-    messages: &[Message],
+    paper: &P,
     document: &Document,
     list: Vec<Value>,
     link: Link,
 ) -> Result<Vec<Value>, AllocError>
     requires { 2 * length document.now.text < 2 ^ 64 }
-    ensures { IfOk result (λ all. map view all.items ≡ with_faults_at messages.now document.now (map view list.items) link) }
+    ensures { IfOk result (λ all. map view all.items ≡
+        with_faults_at (P.shown paper.now) document.now (map view list.items) link) }
 {
     let name = linked_name(alloc, document.text.as_slice(), link)?;
-    let all = with_named_faults(alloc, messages, document, link, name.as_slice(), list)?;
+    let named = Named {
+        document,
+        link,
+        name: name.as_slice(),
+    };
+    let all = with_named_faults(alloc, paper.messages(), paper.file_count(), named, list)?;
     Ok(all)
 }
 
-fn with_link_faults(
+fn with_link_faults<P: Paper>(
     alloc: Global,
-    messages: &[Message],
+    paper: &P,
     document: &Document,
     list: Vec<Value>,
     found: &[Link],
 ) -> Result<Vec<Value>, AllocError>
     requires { 2 * length document.now.text < 2 ^ 64 }
     ensures { IfOk result (λ all. map view all.items ≡
-        fold (with_faults_at messages.now document.now) (map view list.items) found.now) }
+        fold (with_faults_at (P.shown paper.now) document.now) (map view list.items) found.now) }
 {
     let mut all = list;
     'found: for link in found {
-        all = with_faults_at(alloc, messages, document, all, *link)?;
+        all = with_faults_at(alloc, paper, document, all, *link)?;
     }
     Ok(all)
 }
 
 /// Adds the errors about files at the names of these files in a LaTeX text.
-pub fn with_faults(
+pub fn with_faults<P: Paper>(
     alloc: Global,
-    messages: &[Message],
+    paper: &P,
     document: &Document,
     list: Vec<Value>,
 ) -> Result<Vec<Value>, AllocError>
-    ensures { IfOk result (λ all. map view all.items ≡ with_faults messages.now document.now (map view list.items)) }
+    ensures { IfOk result (λ all. map view all.items ≡ with_faults (P.shown paper.now) document.now (map view list.items)) }
 {
     let text = document.text.as_slice();
-    if !is_tex(document.name.as_slice()) || !any_fault(messages) || text.len() > SHOWN_BYTES {
+    let is_faulty = any_fault(paper.messages());
+    if !is_tex(document.name.as_slice()) || !is_faulty || text.len() > SHOWN_BYTES {
         return Ok(list);
     }
     let found = links(alloc, text)?;
-    let all = with_link_faults(alloc, messages, document, list, found.as_slice())?;
+    let all = with_link_faults(alloc, paper, document, list, found.as_slice())?;
     Ok(all)
 }

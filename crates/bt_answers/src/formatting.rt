@@ -1,18 +1,20 @@
 //! Lays out the entries of a database, or those that a range touches: one field a line. Only the white space between the
-//! parts of an entry changes.
+//! parts of an entry changes: the edits are made in a copy first, and sent only if its items are the same.
 
-ghost use Rattle.std.specs.Prelude.{◌≡◌, ◌<◌, ◌*◌, ◌^◌, [], length, map, IfOk};
+ghost use Rattle.std.specs.Prelude.{◌≡◌, ◌<◌, ◌*◌, ◌^◌, [], length, IfOk};
 ghost use Rattle.std.specs.List.{fold};
 ghost use Rattle.serde_json.specs.View.{view};
 ghost use Rattle.bt_positions.specs.Lines.{begins_with_feed};
-ghost use Rattle.bt_answers.specs.Formatting.{line_end, layout, is_touched, is_asked, scope_between, scope_of, with_gap, with_gaps, with_asked_gaps, formatted};
+ghost use Rattle.bt_answers.specs.Formatting.{line_end, layout, is_touched, is_asked, scope_between, scope_of, with_gap, with_gaps, with_asked_gaps, if_kept, formatted};
 
-use crate::renaming::with_text_edit;
+use crate::edit_values::edit_values;
 use bt_bib::{PlacedPiece, read_bib};
 use bt_documents::Document;
+use bt_edited::{Change, Edit, edited, is_made};
 use bt_mentions::{Gap, gaps, part};
 use bt_places::{SHOWN_BYTES, is_database, position_at};
 use bt_positions::{Counting, IndexedText, Position};
+use bt_text::Bytes;
 use serde_json::Value;
 use std::alloc::{AllocError, Global};
 
@@ -135,11 +137,11 @@ fn scope_of(document: &Document, message: &Value) -> Option<Scope>
 fn with_gap(
     alloc: Global,
     page: &Page<'_>,
-    list: Vec<Value>,
+    list: Vec<Edit>,
     gap: Gap,
-) -> Result<Vec<Value>, AllocError>
+) -> Result<Vec<Edit>, AllocError>
     requires { 2 * length page.now.text.now < 2 ^ 64 }
-    ensures { IfOk result (λ all. map view all.items ≡ with_gap page.now.counting page.now.end page.now.text.now (map view list.items) gap) }
+    ensures { IfOk result (λ all. all.items ≡ with_gap page.now.counting page.now.end page.now.text.now list.items gap) }
 {
     let Page {
         text,
@@ -151,18 +153,21 @@ fn with_gap(
     if part(text.as_slice(), gap.from, gap.to) == new {
         return Ok(list);
     }
-    with_text_edit(alloc, counting, text, list, gap.from, gap.to, new)
+    let new = Bytes::copied(alloc, new)?;
+    let mut all = list;
+    all.push(Edit::of(counting, text, gap.from, gap.to, new))?;
+    Ok(all)
 }
 
 fn with_each(
     alloc: Global,
     page: &Page<'_>,
-    list: Vec<Value>,
+    list: Vec<Edit>,
     found: &[Gap],
-) -> Result<Vec<Value>, AllocError>
+) -> Result<Vec<Edit>, AllocError>
     requires { 2 * length page.now.text.now < 2 ^ 64 }
-    ensures { IfOk result (λ all. map view all.items ≡
-        fold (with_gap page.now.counting page.now.end page.now.text.now) (map view list.items) found.now) }
+    ensures { IfOk result (λ all. all.items ≡
+        fold (with_gap page.now.counting page.now.end page.now.text.now) list.items found.now) }
 {
     let mut all = list;
     'found: for gap in found {
@@ -174,12 +179,12 @@ fn with_each(
 fn with_gaps(
     alloc: Global,
     page: &Page<'_>,
-    list: Vec<Value>,
+    list: Vec<Edit>,
     piece: &PlacedPiece,
-) -> Result<Vec<Value>, AllocError>
+) -> Result<Vec<Edit>, AllocError>
     requires { 2 * length page.now.text.now < 2 ^ 64 }
-    ensures { IfOk result (λ all. map view all.items ≡
-        with_gaps page.now.counting page.now.end page.now.text.now (map view list.items) piece.now) }
+    ensures { IfOk result (λ all. all.items ≡
+        with_gaps page.now.counting page.now.end page.now.text.now list.items piece.now) }
 {
     let found = gaps(alloc, page.text.as_slice(), piece)?;
     with_each(alloc, page, list, found.as_slice())
@@ -188,12 +193,12 @@ fn with_gaps(
 fn with_asked_gaps(
     alloc: Global,
     page: &Page<'_>,
-    list: Vec<Value>,
+    list: Vec<Edit>,
     piece: &PlacedPiece,
-) -> Result<Vec<Value>, AllocError>
+) -> Result<Vec<Edit>, AllocError>
     requires { 2 * length page.now.text.now < 2 ^ 64 }
-    ensures { IfOk result (λ all. map view all.items ≡
-        with_asked_gaps page.now.counting page.now.end page.now.text.now page.now.scope (map view list.items) piece.now) }
+    ensures { IfOk result (λ all. all.items ≡
+        with_asked_gaps page.now.counting page.now.end page.now.text.now page.now.scope list.items piece.now) }
 {
     if !is_asked(page.scope, piece) {
         return Ok(list);
@@ -204,18 +209,35 @@ fn with_asked_gaps(
 fn with_pieces(
     alloc: Global,
     page: &Page<'_>,
-    list: Vec<Value>,
+    list: Vec<Edit>,
     pieces: &[PlacedPiece],
-) -> Result<Vec<Value>, AllocError>
+) -> Result<Vec<Edit>, AllocError>
     requires { 2 * length page.now.text.now < 2 ^ 64 }
-    ensures { IfOk result (λ all. map view all.items ≡
-        fold (with_asked_gaps page.now.counting page.now.end page.now.text.now page.now.scope) (map view list.items) pieces.now) }
+    ensures { IfOk result (λ all. all.items ≡
+        fold (with_asked_gaps page.now.counting page.now.end page.now.text.now page.now.scope) list.items pieces.now) }
 {
     let mut all = list;
     'pieces: for piece in pieces {
         all = with_asked_gaps(alloc, page, all, piece)?;
     }
     Ok(all)
+}
+
+/// The edits as a value, if the document has the same items after them; null if it hasn't.
+fn if_kept(
+    alloc: Global,
+    document: &Document,
+    pieces: &[PlacedPiece],
+    edits: &[Edit],
+) -> Result<Value, AllocError>
+    ensures { IfOk result (λ v. view v ≡ if_kept document.now pieces.now edits.now) }
+{
+    let text = edited(alloc, document.counting, &document.text, edits)?;
+    if !is_made(alloc, &Change::Nothing, pieces, &text)? {
+        return Ok(Value::Null);
+    }
+    let values = edit_values(alloc, edits)?;
+    Ok(Value::Array(values))
 }
 
 /// The edits that lay out a document, or the items that the message's range touches, if it is a database.
@@ -233,6 +255,6 @@ pub fn formatted(alloc: Global, document: &Document, message: &Value) -> Result<
         end: line_end(text.as_slice()),
         scope: scope_of(document, message),
     };
-    let list = with_pieces(alloc, &page, Vec::new(alloc), items.pieces())?;
-    Ok(Value::Array(list))
+    let edits = with_pieces(alloc, &page, Vec::new(alloc), items.pieces())?;
+    if_kept(alloc, document, items.pieces(), edits.as_slice())
 }

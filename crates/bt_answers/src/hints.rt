@@ -9,7 +9,7 @@ ghost use Rattle.bt_answers.specs.Hints.{room_after, is_small, with_name, is_ask
 
 use crate::missing::is_missing_at;
 use bt_documents::Document;
-use bt_mentions::{Mention, Role, part};
+use bt_mentions::{Mention, Role, is_parent, part};
 use bt_places::{Paper, Pick, is_database, is_tex, mentions_of, range_of, with_picked, with_value};
 use bt_positions::{Counting, IndexedText};
 use bt_text::NameList;
@@ -22,7 +22,7 @@ const HINTED_BYTES: usize = 262_144;
 
 /// Which names are collected.
 #[derive(Clone, Copy)]
-enum Names {
+pub enum Names {
     /// The keys of entries.
     Entries,
     /// The keys that citations and cross-references ask for.
@@ -83,7 +83,7 @@ fn is_asked(asked: Names, role: Role) -> bool
 {
     match asked {
         Names::Entries => role == Role::Key,
-        Names::Asked => role == Role::Citation || role == Role::Crossref,
+        Names::Asked => role == Role::Citation || is_parent(role),
     }
 }
 
@@ -131,7 +131,7 @@ fn add_file_names(
 }
 
 /// The names in the paper's files, of which no two match.
-fn collected<P: Paper>(alloc: Global, asked: Names, paper: &P) -> Result<NameList, AllocError>
+pub fn collected<P: Paper>(alloc: Global, asked: Names, paper: &P) -> Result<NameList, AllocError>
     ensures { IfOk result (λ list. list ≡ collected asked (P.shown paper.now).files) }
 {
     let mut list = NameList::new(alloc);
@@ -298,7 +298,8 @@ fn with_all_missing<P: Paper>(
     Ok(all)
 }
 
-fn asks_all(alloc: Global, asked: &NameList) -> Result<bool, AllocError>
+/// Whether names say nothing of what isn't asked for: there are none, or one is `*`.
+pub fn asks_all(alloc: Global, asked: &NameList) -> Result<bool, AllocError>
     ensures { IfOk result (λ all. all ≡ asks_all asked.now) }
 {
     match asked.as_slice() {

@@ -4,14 +4,13 @@ ghost use Rattle.std.specs.Prelude.{◌≡◌, map, option_map, IfOk};
 ghost use Rattle.serde_json.specs.View.{view};
 ghost use Rattle.bt_answers.specs.Lensing.{line_range, titled, lens_value, lens_values, line_location, line_or_null, origin_object, origin_value};
 
-use bt_lenses::{FileLine, Lens, Origin};
 use bt_places::location;
 use bt_positions::Position;
+use bt_remarks::{FileLine, Lens, Origin};
 use bt_shapes::{range, shown};
 use serde_json::{Value, json};
 use std::alloc::{AllocError, Global};
 
-/// The begin of a line, as a range.
 fn line_range(alloc: Global, line: usize) -> Result<Value, AllocError>
     ensures { IfOk result (λ v. view v ≡ line_range line) }
 {

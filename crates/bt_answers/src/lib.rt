@@ -2,6 +2,7 @@
 //! folded, laid out and followed, and hints.
 #![tactic(auto)]
 
+mod edit_values;
 mod faults;
 mod folding;
 mod formatting;
@@ -11,13 +12,15 @@ mod lending;
 mod lensing;
 mod links;
 mod missing;
+mod name_edits;
 mod outline;
 mod references;
 mod related;
 mod renaming;
 mod symbols;
+mod uncited;
 
-pub use faults::{faulty_file, is_fault, is_some_text, linked_name, said, with_faults};
+pub use faults::{fault_words, faulty_file, is_fault, is_some_text, linked_name, with_faults};
 pub use folding::folds_of;
 pub use formatting::formatted;
 pub use hints::with_hints;
@@ -30,3 +33,4 @@ pub use references::{is_definition, macro_at, references_at};
 pub use related::{diagnostics_in, shows_related};
 pub use renaming::{name_range_at, renamed_at, with_edits, with_text_edit, workspace_edit};
 pub use symbols::symbols_for;
+pub use uncited::hovered_at;

@@ -3,7 +3,7 @@
 ghost use Rattle.std.specs.Prelude.{◌≡◌, ◌≤◌, ◌<◌, ◌*◌, ◌^◌, ◌++◌, ◌∷◌, [], length, map, IfOk};
 ghost use Rattle.std.specs.List.{fold, list_all};
 ghost use Rattle.serde_json.specs.View.{view};
-ghost use Rattle.bt_answers.specs.Links.{extension, has_own_extension, full_name, is_plain_byte, behind_slash, file_name, folder, ends_with, link_value, link_to, with_link_to, with_part, with_named, with_link, links_of};
+ghost use Rattle.bt_answers.specs.Links.{extension, has_own_extension, full_name, is_plain_byte, behind_slash, file_name, folder, folder_before, ends_with, link_value, link_to, with_link_to, with_part, with_named, with_link, links_of};
 
 use bt_documents::Document;
 use bt_mentions::{Link, LinkKind, links, part};
@@ -84,7 +84,6 @@ fn behind_slash(uri: &[u8]) -> usize
     uri.iter().rev().take_while(|byte| **byte != b'/').count()
 }
 
-/// The folder of a file, with its slash.
 fn folder(uri: &[u8]) -> &[u8]
     ensures { result.now ≡ folder uri.now }
 {
@@ -177,7 +176,22 @@ impl Visit for Named<'_> {
     }
 }
 
-/// Adds the link to another part of the text, in the document's folder.
+/// The folder from which a name in a text of this folder leads to another text. LaTeX looks from the paper's folder, so
+/// in `chapters/`, `chapters/two` isn't in a folder `chapters/chapters/`.
+fn folder_before<'a>(own: &'a [u8], name: &[u8]) -> &'a [u8]
+    ensures { result.now ≡ folder_before own.entry.now name.now }
+{
+    let repeated = folder(name);
+    let start = own.len().saturating_sub(repeated.len());
+    let (before, behind) = own.split_at(start);
+    if behind == repeated && behind_slash(before) == 0 {
+        before
+    } else {
+        own
+    }
+}
+
+/// Adds the link to another part of the text.
 fn with_part(
     alloc: Global,
     document: &Document,
@@ -187,7 +201,8 @@ fn with_part(
 ) -> Result<Vec<Value>, AllocError>
     ensures { IfOk result (λ all. map view all.items ≡ with_part document.now link (map view list.items) name.now) }
 {
-    let target = full_name(alloc, folder(document.name.as_slice()), link.kind, name)?;
+    let before = folder_before(folder(document.name.as_slice()), name);
+    let target = full_name(alloc, before, link.kind, name)?;
     let all = with_link_to(alloc, document, link, list, target.as_slice())?;
     Ok(all)
 }

@@ -59,7 +59,7 @@ pub fn is_definition(role: Role) -> bool
 {
     match role {
         Role::Definition => true,
-        Role::Key | Role::Crossref | Role::Citation | Role::Macro => false,
+        Role::Key | Role::Crossref | Role::Number | Role::Citation | Role::Macro => false,
     }
 }
 
@@ -81,7 +81,7 @@ fn is_use(role: Role) -> bool
     ensures { result ≡ is_use role }
 {
     match role {
-        Role::Crossref | Role::Citation | Role::Macro => true,
+        Role::Crossref | Role::Number | Role::Citation | Role::Macro => true,
         Role::Key | Role::Definition => false,
     }
 }
@@ -221,7 +221,6 @@ pub fn references_at<P: Paper>(
     Ok(found)
 }
 
-/// Where databases and the paper's style define a macro.
 fn macro_places<P: Paper>(
     alloc: Global,
     paper: &P,

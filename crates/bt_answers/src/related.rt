@@ -1,17 +1,19 @@
 //! Diagnostics in a database with the place where their entry begins, for editors that show related places.
 
-ghost use Rattle.std.specs.Prelude.{◌≡◌, ◌<◌, ◌*◌, ◌^◌, length, map, IfOk};
+ghost use Rattle.std.specs.Prelude.{◌≡◌, ◌<◌, ◌*◌, ◌^◌, length, map, option_map, IfOk};
 ghost use Rattle.serde_json.specs.View.{view};
 ghost use Rattle.bt_bib.specs.BibText.{pieces_of};
+ghost use Rattle.bt_bib.specs.inner.Boundaries.{InOrder};
+ghost use Rattle.bt_places.specs.Entries.{item_around};
 ghost use Rattle.bt_places.specs.Shapes.{diagnostic};
-ghost use Rattle.bt_answers.specs.Related.{shows_related, beginning, diagnostic_from, end_of_first, place_of_entry, begins_before, related_to, related, with_beginnings, diagnostics_in};
+ghost use Rattle.bt_answers.specs.Related.{shows_related, beginning, diagnostic_from, end_of_first, place_of_entry, begins_before, related_to, first_around, related, with_beginnings, diagnostics_in};
 
 use bt_bib::{PlacedPiece, read_bib};
 use bt_diagnostics::Diagnostic;
 use bt_documents::Document;
 use bt_mentions::{Mention, with_piece};
 use bt_places::{
-    SHOWN_BYTES, diagnostic, diagnostic_values, is_database, item_around, location, range_of, shown,
+    SHOWN_BYTES, diagnostic, diagnostic_values, is_database, location, range_of, shown,
 };
 use bt_shapes::range;
 use bt_text::Sequence;
@@ -59,7 +61,6 @@ fn end_of_first(place: usize, found: &[Mention]) -> usize
     }
 }
 
-/// An entry from its sign to its key.
 fn place_of_entry(
     alloc: Global,
     document: &Document,
@@ -104,6 +105,30 @@ fn related_to(
     Ok(value)
 }
 
+/// The first piece, unless it begins behind a place.
+fn first_around(pieces: &[PlacedPiece], place: usize) -> Option<&PlacedPiece>
+    ensures { option_map (λ p. p.now) result ≡ first_around place pieces.now }
+{
+    match pieces {
+        [first, ..] => if first.start.place <= place {
+            Some(first)
+        } else {
+            None
+        },
+        [] => None,
+    }
+}
+
+/// The item around a place, by a binary search: each diagnostic of a run asks for one.
+fn found_around(pieces: &[PlacedPiece], place: usize) -> Option<&PlacedPiece>
+    requires { InOrder pieces.now }
+    ensures { option_map (λ p. p.now) result ≡ item_around place pieces.now }
+{
+    let count = pieces.partition_point(|piece| piece.end.place < place);
+    let (_, back) = pieces.split_at(count);
+    first_around(back, place)
+}
+
 /// A diagnostic in a document that consists of these pieces.
 fn related(
     alloc: Global,
@@ -111,11 +136,12 @@ fn related(
     pieces: &[PlacedPiece],
     found: &Diagnostic,
 ) -> Result<Value, AllocError>
-    requires { 2 * length document.now.text < 2 ^ 64 }
+    requires small { 2 * length document.now.text < 2 ^ 64 }
+    requires order { InOrder pieces.now }
     ensures { IfOk result (λ v. view v ≡ related document.now pieces.now found.now) }
 {
     let place = document.text.offset_of(document.counting, found.from);
-    match item_around(pieces, place) {
+    match found_around(pieces, place) {
         Some(piece) => related_to(alloc, document, found, piece),
         None => diagnostic(alloc, found),
     }
@@ -127,7 +153,8 @@ fn related_values(
     pieces: &[PlacedPiece],
     found: &[Diagnostic],
 ) -> Result<Vec<Value>, AllocError>
-    requires { 2 * length document.now.text < 2 ^ 64 }
+    requires small { 2 * length document.now.text < 2 ^ 64 }
+    requires order { InOrder pieces.now }
     ensures { IfOk result (λ list. map view list.items ≡ map (related document.now pieces.now) found.now) }
 {
     let mut list = Vec::new(alloc);

@@ -1,4 +1,5 @@
-//! Renames a key or a macro in the paper's files and in LaTeX's open texts.
+//! Renames a key or a macro in the paper's files and in LaTeX's open texts. The edits of databases are made in copies first,
+//! and sent only if nothing else changes in their items: a key can be spelled in ways that no mention covers.
 
 ghost use Rattle.std.specs.Prelude.{◌≡◌, ◌<◌, ◌*◌, ◌^◌, ◌++◌, ◌∷◌, [], length, map, option_map, IfOk};
 ghost use Rattle.std.specs.List.{list_all};
@@ -6,31 +7,26 @@ ghost use Rattle.serde_json.specs.View.{view};
 ghost use Rattle.bt_talk.specs.Replies.{outcome_of};
 ghost use Rattle.bt_mentions.specs.KeyBytes.{is_key_byte};
 ghost use Rattle.bt_places.specs.Shapes.{range_of};
-ghost use Rattle.bt_answers.specs.Renaming.{text_edit, file_edit, with_file_edit, is_new_key, can_be_named, renamed, is_free, is_defined, renamed_by, is_named, renamed_at, range_if_defined, name_range_at};
+ghost use Rattle.bt_answers.specs.Renaming.{text_edit, file_edit, are_renamed, with_file_edit, is_new_key, can_be_named, renamed, is_free, is_lent, is_defined, renamed_by, is_named, renamed_at, range_if_defined, name_range_at};
 
-use crate::references::{Search, Wanted, is_mention, is_mentioned, wanted_of};
+use crate::edit_values::edit_values;
+use crate::lending::Loan;
+use crate::name_edits::Renaming;
+use crate::references::{Search, Wanted, is_mentioned, wanted_of};
 use bt_documents::Document;
 use bt_mentions::{Mention, is_key_byte, part};
 use bt_places::{
-    Editor, Paper, Pick, SHOWN_BYTES, Visit, is_any, is_key, mention_at, range_of, with_files,
-    with_picked, with_texts, with_value,
+    Editor, Paper, SHOWN_BYTES, Visit, is_any, is_key, mention_at, range_of, with_files,
+    with_texts, with_value,
 };
 use bt_positions::{Counting, IndexedText, Position};
 use bt_rpc::RpcError;
 pub use bt_shapes::workspace_edit;
 use bt_shapes::{file_edit, text_edit};
+use bt_style_answers::Lent;
 use bt_text::{eq_ignore_ascii_case, is_name};
 use serde_json::Value;
 use std::alloc::{AllocError, Global};
-
-/// A change of a name to another in all mentions.
-#[derive(Clone, Copy)]
-pub struct Renaming<'a> {
-    editor: Editor<'a>,
-    wanted: Wanted,
-    old: &'a [u8],
-    new: &'a [u8],
-}
 
 /// Adds the edit that replaces a part of a text.
 pub fn with_text_edit(
@@ -50,29 +46,6 @@ pub fn with_text_edit(
     let edit = text_edit(alloc, range, new)?;
     let all = with_value(list, edit)?;
     Ok(all)
-}
-
-impl Pick for Renaming<'_> {
-    ghost use Rattle.bt_places.specs.Editor.{counting_in};
-    ghost use Rattle.bt_answers.specs.Renaming.{with_edit};
-
-    ghost picked = { λ r uri text list one.
-        with_edit (counting_in r.editor.counting r.editor.documents.now) r.wanted r.old.now r.new.now uri text list one };
-
-    fn pick(
-        &self,
-        alloc: Global,
-        uri: &[u8],
-        text: &IndexedText,
-        list: Vec<Value>,
-        one: Mention,
-    ) -> Result<Vec<Value>, AllocError> {
-        if !is_mention(self.wanted, self.old, text.as_slice(), one) {
-            return Ok(list);
-        }
-        let counting = self.editor.counting_in(uri);
-        with_text_edit(alloc, counting, text, list, one.from, one.to, self.new)
-    }
 }
 
 pub fn with_edits(
@@ -116,8 +89,10 @@ impl Visit for Renaming<'_> {
         uri: &[u8],
         text: &[u8],
     ) -> Result<Vec<Value>, AllocError> {
-        let edits = with_picked(alloc, self, Vec::new(alloc), uri, text)?;
-        with_file_edit(alloc, list, uri, edits)
+        let indexed = IndexedText::copied(alloc, text)?;
+        let edits = self.edits_in(alloc, uri, &indexed)?;
+        let values = edit_values(alloc, edits.as_slice())?;
+        with_file_edit(alloc, list, uri, values)
     }
 }
 
@@ -172,7 +147,26 @@ fn is_free<P: Paper>(alloc: Global, paper: &P, renaming: &Renaming<'_>) -> Resul
     Ok(!found)
 }
 
-/// Whether files define what is looked for. A key needs no entry.
+/// Whether the style defines a macro.
+fn is_lent<P: Paper>(
+    alloc: Global,
+    paper: &P,
+    editor: &Editor<'_>,
+    name: &[u8],
+) -> Result<bool, AllocError>
+    ensures { IfOk result (λ lent. lent ≡ is_lent (P.shown paper.now).files editor.now.documents.now editor.now.counting name.now) }
+{
+    let loan = Loan {
+        editor: *editor,
+        lent: Lent::Macro,
+        name,
+    };
+    let list = with_files(alloc, paper, &loan, Vec::new(alloc))?;
+    Ok(is_any(list.as_slice()))
+}
+
+/// Whether databases define what is looked for, and no style does: uses of a macro before its `@string` have the style's value.
+/// A key needs no entry.
 fn is_defined<P: Paper>(
     alloc: Global,
     paper: &P,
@@ -192,9 +186,27 @@ fn is_defined<P: Paper>(
                 name: old,
             };
             let found = is_mentioned(alloc, paper, &search)?;
-            Ok(found)
+            let lent = is_lent(alloc, paper, editor, old)?;
+            Ok(found && !lent)
         }
     }
+}
+
+/// Whether the edits change the name in the items of all databases, and nothing else.
+fn are_renamed<P: Paper>(
+    alloc: Global,
+    paper: &P,
+    renaming: &Renaming<'_>,
+) -> Result<bool, AllocError>
+    ensures { IfOk result (λ are. are ≡ are_renamed (P.shown paper.now).files renaming.now.editor.documents.now
+        renaming.now.editor.counting renaming.now.wanted renaming.now.old.now renaming.now.new.now) }
+{
+    let mut are = true;
+    'files: for n in 0..paper.file_count() {
+        let (uri, text) = paper.file(n);
+        are = renaming.also_renamed(alloc, are, uri, text)?;
+    }
+    Ok(are)
 }
 
 fn renamed_if_free<P: Paper>(
@@ -219,14 +231,19 @@ fn renamed_if_free<P: Paper>(
     )? {
         return Ok(Err(RpcError::UndefinedMacro));
     }
+    if !are_renamed(alloc, paper, renaming)? {
+        return Ok(Err(RpcError::InexactRename));
+    }
     Ok(Ok(renamed(alloc, paper, renaming)?))
 }
 
-/// Whether a mention has a name that can change. A number in a value has none.
+/// Whether a mention has a name that can change. A number that isn't a key has none, and all entries without a key would get
+/// the same one.
 fn is_named(text: &[u8], one: Mention) -> bool
     ensures { result ≡ is_named text.now one }
 {
-    is_key(one.role) || is_name(part(text, one.from, one.to))
+    let name = part(text, one.from, one.to);
+    !name.is_empty() && (is_key(one.role) || is_name(name))
 }
 
 /// The edits that give the key or the macro at a position of a document a new name, in all files; null if there is none.

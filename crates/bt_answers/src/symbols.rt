@@ -20,7 +20,6 @@ struct Query<'a> {
     text: &'a [u8],
 }
 
-/// The text that a message asks for; empty if it has none.
 fn query_of(message: &Value) -> &[u8]
     ensures { result.now ≡ query_of (view message.now) }
 {
@@ -30,7 +29,6 @@ fn query_of(message: &Value) -> &[u8]
     }
 }
 
-/// Whether a text contains another, without regard to case.
 fn contains(text: &[u8], query: &[u8]) -> bool
     ensures { result ≡ contains query.now text.now }
 {
@@ -52,7 +50,7 @@ fn number_of(role: Role) -> u8
     match role {
         Role::Key => 20,
         Role::Definition => 14,
-        Role::Crossref | Role::Citation | Role::Macro => 0,
+        Role::Crossref | Role::Number | Role::Citation | Role::Macro => 0,
     }
 }
 

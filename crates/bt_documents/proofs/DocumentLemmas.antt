@@ -1,5 +1,5 @@
 -- One document in the place of another.
-use Rattle.std.proofs.Common.{◌≡◌, ◌∙◌, ap, sym, refl, subst, ◌+◌, ℕ, zero, suc, Bool, true, false, not, ◌||◌, cond, List, [], ◌∷◌, ◌++◌, take, drop, length, Option, Some, None, option_map, one-add, slice_index_or, slice_get, slice_set, ◌<◌, length-append, arith, ◌⊎◌, inl, inr}
+use Rattle.std.proofs.Common.{◌≡◌, ◌∙◌, ap, sym, refl, subst, ◌+◌, ℕ, zero, suc, Bool, true, false, not, ◌||◌, cond, List, [], ◌∷◌, ◌++◌, take, drop, length, Option, Some, None, option_map, one-add, slice_index_or, slice_get, slice_set, ◌<◌, arith, ◌⊎◌, inl, inr}
 use Rattle.std.specs.Prelude.{nat_lt, bytes_eq, position}
 use Rattle.std.specs.List.{AllByRecursion, position_or_len}
 use Rattle.std.proofs.Math.Dec.{leb-zero, leb-suc-suc}
@@ -135,11 +135,6 @@ once_behind : (docs : List Document) (x : Document) → EachOnce docs → AllByR
 once_behind [] x once a = (tt, tt)
 once_behind (d ∷ ds) x once a =
     (all_behind (λ (e : Document). bytes_eq e.name d.name ≡ false) ds x once.0 (nat_list_eq_equiv.symm x.name d.name ∙ a.0), once_behind ds x once.1 a.1)
-
--- files of which one has another text, where no document has its name
-pub follows_none : (text text' : List ℕ → Option (List ℕ)) (name : List ℕ) (docs : List Document) → place name docs ≡ None →
-    ((other : List ℕ) → bytes_eq other name ≡ false → text' other ≡ text other) → Follows text docs → Follows text' docs
-follows_none text text' name docs none keep now = record { once = now.once; each = others_stay text text' name docs keep (none_has name docs none) now.each }
 
 -- the same with a document more
 pub follows_push : (text text' : List ℕ → Option (List ℕ)) (x : Document) (docs : List Document) → place x.name docs ≡ None →

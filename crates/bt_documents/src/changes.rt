@@ -16,7 +16,6 @@ pub enum Change {
     Range(Position, Position, Bytes),
 }
 
-/// The text whose bytes `start..end` are replaced.
 fn replaced(
     alloc: Global,
     text: &[u8],
@@ -34,7 +33,6 @@ fn replaced(
     IndexedText::new(alloc, bytes.into_vec())
 }
 
-/// The text after a change.
 fn edited(
     alloc: Global,
     counting: Counting,

@@ -145,7 +145,6 @@ pub fn change(
     Ok(())
 }
 
-/// The document at a place, if there is one.
 fn document_at(documents: &[Document], place: usize) -> Option<&Document>
     ensures { option_map (λ d. d.now) result ≡ slice_get documents.now place }
 {

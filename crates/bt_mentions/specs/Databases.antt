@@ -47,17 +47,20 @@ with_value text from to begin found =
     all_found (fold scan_after (record { state = InItem begin; place = place; current = None; found = found })
     (part place to text))
 
--- these mentions, the mention of a name, and those after it
-abbrev pub with_name : List ℕ → ℕ → ℕ → List ℕ → Role → List Mention → List Mention
-with_name text from to name role found =
+-- the mention of a name that begins at a place
+abbrev pub mention_of : List ℕ → ℕ → List ℕ → Role → Mention
+mention_of text from name role =
     let begin = min from (length text) in
-    let end = min (begin + length name) (length text) in
-    with_value text end to (Name 9) (found ++ record { from = begin; to = end; role = role } ∷ [])
+    record { from = begin; to = min (begin + length name) (length text); role = role }
+
+-- these mentions, the mention of a name, and those after it
+abbrev pub with_mention : List ℕ → ℕ → Mention → List Mention → List Mention
+with_mention text to mention found = with_value text mention.to to (Name 9) (found ++ mention ∷ [])
 
 -- the same for a name that may be missing
 abbrev pub with_name_if_any : List ℕ → ℕ → ℕ → Option (List ℕ) → Role → List Mention → List Mention
 with_name_if_any text from to None role found = found
-with_name_if_any text from to (Some name) role found = with_name text from to name role found
+with_name_if_any text from to (Some name) role found = with_mention text to (mention_of text from name role) found
 
 -- these mentions, and those of what an item holds
 abbrev pub with_content : List ℕ → ℕ → ℕ → Content → List Mention → List Mention

@@ -2,7 +2,7 @@
 
 ghost use Rattle.std.specs.Prelude.{◌≡◌, ◌≤◌, length, IfOk};
 ghost use Rattle.std.specs.List.{fold};
-ghost use Rattle.bt_mentions.specs.Databases.{part, is_opening, opening_len, head_len, inside_item, with_value, with_name, with_content, with_piece, mentions};
+ghost use Rattle.bt_mentions.specs.Databases.{part, is_opening, opening_len, head_len, inside_item, with_value, mention_of, with_mention, with_content, with_piece, mentions};
 
 use crate::inside::{Inside, inside_behind};
 use crate::mention::{Mention, Role};
@@ -85,26 +85,29 @@ fn with_value(
     scan.over(part(text, place, to))
 }
 
-/// Adds the mention of a name, and those after it.
-fn with_name(
-    text: &[u8],
-    from: usize,
-    to: usize,
-    name: &[u8],
-    role: Role,
-    found: Sequence<Mention>,
-) -> Result<Sequence<Mention>, AllocError>
-    ensures { IfOk result (λ all. all ≡ with_name text.now from to name.now role found) }
+fn mention_of(text: &[u8], from: usize, name: &[u8], role: Role) -> Mention
+    ensures { result ≡ mention_of text.now from name.now role }
 {
     let begin = from.min(text.len());
-    let end = (begin + name.len()).min(text.len());
-    let mut all = found;
-    all.push(Mention {
+    Mention {
         from: begin,
-        to: end,
+        to: (begin + name.len()).min(text.len()),
         role,
-    })?;
-    with_value(text, end, to, Inside::Name(9), all)
+    }
+}
+
+/// Adds the mention of a name, and those after it.
+fn with_mention(
+    text: &[u8],
+    to: usize,
+    mention: Mention,
+    found: Sequence<Mention>,
+) -> Result<Sequence<Mention>, AllocError>
+    ensures { IfOk result (λ all. all ≡ with_mention text.now to mention found) }
+{
+    let mut all = found;
+    all.push(mention)?;
+    with_value(text, mention.to, to, Inside::Name(9), all)
 }
 
 fn with_content(
@@ -118,11 +121,17 @@ fn with_content(
 {
     match content {
         Content::Entry(entry) => match &entry.key {
-            Some(key) => with_name(text, from, to, key.as_slice(), Role::Key, found),
+            Some(key) => {
+                let mention = mention_of(text, from, key.as_slice(), Role::Key);
+                with_mention(text, to, mention, found)
+            }
             None => Ok(found),
         },
         Content::Define(definition) => match &definition.name {
-            Some(name) => with_name(text, from, to, name.as_slice(), Role::Definition, found),
+            Some(name) => {
+                let mention = mention_of(text, from, name.as_slice(), Role::Definition);
+                with_mention(text, to, mention, found)
+            }
             None => Ok(found),
         },
         Content::Preamble(_) => with_value(text, from, to, Inside::Value(false), found),

@@ -1,11 +1,10 @@
 //! Where a place of an item is, after its key or its macro's name.
 
 ghost use Rattle.std.specs.Prelude.{◌≡◌};
-ghost use Rattle.bt_mentions.specs.Inside.{letter_after, name_after, value_after, deeper, braced_after, quoted_after, inside_after, inside_behind, inside_role};
+ghost use Rattle.bt_mentions.specs.Inside.{letter_after, name_after, value_after, deeper, braced_after, quoted_after, inside_after, inside_behind, value_role, enclosed_role, inside_role, is_enclosed};
 
-use crate::key_bytes::is_key_byte;
 use crate::mention::Role;
-use bt_text::is_name_byte;
+use bt_text::{is_digit, is_name_byte, is_white};
 
 /// More braces than this inside a value don't count: a session takes no text that has them.
 const MOST_DEPTH: usize = 4_294_967_296;
@@ -15,11 +14,11 @@ const MOST_DEPTH: usize = 4_294_967_296;
 pub enum Inside {
     /// In a field's name, or around it. The number of letters of `crossref` so far (8: all), or 9 in any other name.
     Name(u8),
-    /// In a value, outside of braces and quotes; whether the field is `crossref`.
+    /// In a value, outside of braces and quotes; whether a key can follow: at the beginning of a `crossref` field.
     Value(bool),
-    /// In braces of a value, and in this many more.
+    /// In braces of a value, and in this many more; whether they can hold a key.
     Braced(bool, usize),
-    /// In quotes of a value, and in this many braces.
+    /// In quotes of a value, and in this many braces; whether they can hold a key.
     Quoted(bool, usize),
 }
 
@@ -60,6 +59,7 @@ fn value_after(is_crossref: bool, byte: u8) -> Inside
         b'{' => Inside::Braced(is_crossref, 0),
         b'"' => Inside::Quoted(is_crossref, 0),
         b',' => Inside::Name(0),
+        b'#' => Inside::Value(false),
         _ => Inside::Value(is_crossref),
     }
 }
@@ -77,7 +77,7 @@ fn braced_after(is_crossref: bool, depth: usize, byte: u8) -> Inside
         Inside::Braced(is_crossref, deeper(depth))
     } else if byte == b'}' {
         if depth == 0 {
-            Inside::Value(is_crossref)
+            Inside::Value(false)
         } else {
             Inside::Braced(is_crossref, depth - 1)
         }
@@ -94,7 +94,7 @@ fn quoted_after(is_crossref: bool, depth: usize, byte: u8) -> Inside
     } else if byte == b'}' {
         Inside::Quoted(is_crossref, depth.saturating_sub(1))
     } else if byte == b'"' && depth == 0 {
-        Inside::Value(is_crossref)
+        Inside::Value(false)
     } else {
         Inside::Quoted(is_crossref, depth)
     }
@@ -123,21 +123,46 @@ pub fn inside_behind(text: &[u8]) -> Inside
     state
 }
 
+fn value_role(is_crossref: bool, byte: u8) -> Option<Role>
+    ensures { result ≡ value_role is_crossref byte }
+{
+    if is_crossref && is_digit(byte) {
+        Some(Role::Number)
+    } else if is_name_byte(byte) {
+        Some(Role::Macro)
+    } else {
+        None
+    }
+}
+
+fn enclosed_role(is_crossref: bool, depth: usize, close: u8, byte: u8) -> Option<Role>
+    ensures { result ≡ enclosed_role is_crossref depth close byte }
+{
+    if is_crossref && !is_white(byte) && !(byte == close && depth == 0) {
+        Some(Role::Crossref)
+    } else {
+        None
+    }
+}
+
 /// What a byte at such a place is a part of.
 pub fn inside_role(at: Inside, byte: u8) -> Option<Role>
     ensures { result ≡ inside_role at byte }
 {
     match at {
-        Inside::Value(_) => if is_name_byte(byte) {
-            Some(Role::Macro)
-        } else {
-            None
-        },
-        Inside::Braced(true, 0) | Inside::Quoted(true, 0) => if is_key_byte(byte) {
-            Some(Role::Crossref)
-        } else {
-            None
-        },
-        _ => None,
+        Inside::Name(_) => None,
+        Inside::Value(is_crossref) => value_role(is_crossref, byte),
+        Inside::Braced(is_crossref, depth) => enclosed_role(is_crossref, depth, b'}', byte),
+        Inside::Quoted(is_crossref, depth) => enclosed_role(is_crossref, depth, b'"', byte),
+    }
+}
+
+/// Whether a place is in braces or quotes.
+pub fn is_enclosed(inside: Inside) -> bool
+    ensures { result ≡ is_enclosed inside }
+{
+    match inside {
+        Inside::Name(_) | Inside::Value(_) => false,
+        Inside::Braced(_, _) | Inside::Quoted(_, _) => true,
     }
 }

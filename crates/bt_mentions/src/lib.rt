@@ -24,5 +24,5 @@ pub use key_bytes::is_key_byte;
 pub use keys::entry_keys;
 pub use layout::{Gap, gaps};
 pub use linking::{Link, LinkKind, links};
-pub use mention::{Mention, Role};
+pub use mention::{Mention, Role, is_parent};
 pub use scan::citations;

@@ -2,11 +2,11 @@
 
 ghost use Rattle.std.specs.Prelude.{◌≡◌, ◌<◌, ◌+◌, ◌^◌, ◌++◌, [], length, IfOk, OnOk};
 ghost use Rattle.std.specs.List.{fold};
-ghost use Rattle.bt_mentions.specs.Scan.{continued, finished, scan_after, all_found, citations};
+ghost use Rattle.bt_mentions.specs.Scan.{is_kept, continued, finished, scan_after, all_found, citations};
 
 use crate::citing::Citing;
-use crate::mention::{Mention, Role};
-use crate::state::{State, role_at, state_after};
+use crate::mention::{Mention, Role, is_parent};
+use crate::state::{State, is_open, role_at, state_after};
 use bt_text::Sequence;
 use std::alloc::{AllocError, Global};
 
@@ -21,12 +21,30 @@ pub struct Scan {
     pub found: Sequence<Mention>,
 }
 
-fn continued(role: Option<Role>, place: usize, current: Option<Mention>) -> Option<Mention>
+/// Whether a mention goes on after a byte that isn't a part of it. That of a parent does up to the end of the value, because a
+/// `#` would end it.
+fn is_kept(role: Role, byte: u8) -> bool
+    ensures { result ≡ is_kept role byte }
+{
+    is_parent(role) && byte != b',' && byte != b'#'
+}
+
+fn continued(
+    role: Option<Role>,
+    byte: u8,
+    place: usize,
+    current: Option<Mention>,
+) -> Option<Mention>
     requires { place + 1 < 2 ^ 64 }
-    ensures { result ≡ continued role place current }
+    ensures { result ≡ continued role byte place current }
 {
     match (role, current) {
-        (None, _) => None,
+        (None, None) => None,
+        (None, Some(one)) => if is_kept(one.role, byte) {
+            Some(one)
+        } else {
+            None
+        },
         (Some(role), None) => Some(Mention {
             from: place,
             to: place + 1,
@@ -40,12 +58,17 @@ fn continued(role: Option<Role>, place: usize, current: Option<Mention>) -> Opti
     }
 }
 
-fn finished(role: Option<Role>, current: Option<Mention>) -> Option<Mention>
-    ensures { result ≡ finished role current }
+fn finished(role: Option<Role>, byte: u8, current: Option<Mention>) -> Option<Mention>
+    ensures { result ≡ finished role byte current }
 {
-    match role {
-        Some(_) => None,
-        None => current,
+    match (role, current) {
+        (None, Some(one)) => if is_parent(one.role) && byte != b',' {
+            None
+        } else {
+            Some(one)
+        },
+        (None, None) => None,
+        (Some(_), _) => None,
     }
 }
 
@@ -55,20 +78,27 @@ impl Scan {
         ensures { OnOk result (self.new ≡ scan_after self.old byte) }
     {
         let role = role_at(self.state, byte);
-        self.found.push_if_any(finished(role, self.current))?;
-        self.current = continued(role, self.place, self.current);
+        self.found.push_if_any(finished(role, byte, self.current))?;
+        self.current = continued(role, byte, self.place, self.current);
         self.state = state_after(self.state, byte);
         self.place += 1;
         Ok(())
     }
 
-    /// The mentions, and the one that the bytes end with.
+    /// The mentions, and the one that the bytes end with. A text that isn't closed is none.
     fn into_found(self) -> Result<Sequence<Mention>, AllocError>
         ensures { IfOk result (λ found. found ≡ all_found self) }
     {
-        let Scan { current, found, .. } = self;
+        let Scan {
+            state,
+            current,
+            found,
+            ..
+        } = self;
         let mut all = found;
-        all.push_if_any(current)?;
+        if !is_open(state) {
+            all.push_if_any(current)?;
+        }
         Ok(all)
     }
 
@@ -85,12 +115,16 @@ impl Scan {
     }
 }
 
-/// The keys that a text cites.
-pub fn citations(alloc: Global, text: &[u8]) -> Result<Sequence<Mention>, AllocError>
-    ensures { IfOk result (λ found. found ≡ citations text.now) }
+/// The keys that a text cites. In LaTeX a `%` ends a key.
+pub fn citations(
+    alloc: Global,
+    in_latex: bool,
+    text: &[u8],
+) -> Result<Sequence<Mention>, AllocError>
+    ensures { IfOk result (λ found. found ≡ citations in_latex text.now) }
 {
     let scan = Scan {
-        state: State::Text(Citing::Outside),
+        state: State::Text(in_latex, Citing::Outside),
         place: 0,
         current: None,
         found: Sequence::new(alloc),

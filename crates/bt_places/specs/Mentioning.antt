@@ -4,7 +4,7 @@ use Rattle.bt_positions.specs.Positions.{offset_of}
 use Rattle.bt_positions.specs.declared.indexed_text.Position.{Position}
 use Rattle.bt_documents.specs.declared.document.Document.{Document}
 use Rattle.bt_mentions.specs.declared.mention.Role.{Role}
-use Rattle.bt_mentions.specs.declared.mention.Role.TheVariants.{Key, Crossref, Citation, Definition, Macro}
+use Rattle.bt_mentions.specs.declared.mention.Role.TheVariants.{Key, Crossref, Number, Citation, Definition, Macro}
 use Rattle.bt_mentions.specs.declared.mention.Mention.{Mention}
 use Rattle.bt_mentions.specs.Scan.{citations}
 use Rattle.bt_mentions.specs.Databases.{mentions}
@@ -13,7 +13,7 @@ use Rattle.bt_places.specs.Entries.{is_database, is_style, is_tex}
 
 -- the citations of a file that is no database; what a comment of LaTeX leaves open cites nothing
 abbrev pub citations_of : List ℕ → List ℕ → List Mention
-citations_of name text = if not (is_tex name) then citations text else citations (closed text)
+citations_of name text = if not (is_tex name) then citations false text else citations true (closed text)
 
 -- the mentions of a file, by its name: a database has mentions, a style none, and any other text citations
 abbrev pub mentions_of : List ℕ → List ℕ → List Mention
@@ -24,6 +24,7 @@ mentions_of name text =
 abbrev pub is_key : Role → Bool
 is_key Key = true
 is_key Crossref = true
+is_key Number = true
 is_key Citation = true
 is_key Definition = false
 is_key Macro = false

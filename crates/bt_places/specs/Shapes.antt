@@ -1,8 +1,8 @@
 -- Values of the protocol.
-use Rattle.std.specs.Prelude.{ℕ, Bool, true, false, if◌then◌else◌, List, ◌++◌, codes}
+use Rattle.std.specs.Prelude.{ℕ, Bool, true, false, if◌then◌else◌, List, [], ◌∷◌, ◌++◌, map, codes}
 use Rattle.std.specs.Str.{is_utf8}
-use Rattle.std.specs.Str.Lossy.{utf8_lossy}
-use Rattle.serde_json.specs.Data.{Data, null, put, number, unsigned, boolean, string, array, item, no_items, object, member, no_members}
+use Rattle.bt_shapes.specs.Text.{as_utf8}
+use Rattle.serde_json.specs.Data.{Data, Members, null, put, number, unsigned, boolean, string, array, item, no_items, object, member, no_members}
 use Rattle.serde_json.specs.View.{items_of}
 use Rattle.bt_diagnostics.specs.declared.diagnostic.Diagnostic.{Diagnostic}
 use Rattle.bt_rpc.specs.Messages.{notification}
@@ -33,8 +33,8 @@ contents kind words =
 
 -- what a hover shows of lines: plain text, or a block of LaTeX in Markdown
 abbrev pub hover : Bool → List ℕ → Data
-hover true lines = contents (codes "plaintext") (utf8_lossy lines)
-hover false lines = contents (codes "markdown") (codes "```tex\n" ++ utf8_lossy lines ++ codes "```")
+hover true lines = contents (codes "plaintext") (as_utf8 lines)
+hover false lines = contents (codes "markdown") (codes "```tex\n" ++ as_utf8 lines ++ codes "```")
 
 -- the bibliography or the log, with the run's status
 abbrev pub shown_text : List ℕ → ℕ → Data
@@ -66,26 +66,32 @@ sync_options =
 abbrev pub whole_options : Data
 whole_options = object (member (codes "resolveProvider") (boolean false) no_members)
 
--- what the server can do
-abbrev pub abilities : List ℕ → Data → Data → Data → Data → Data → Data
-abilities encoding completion rename sync links lenses =
-    object (member (codes "codeActionProvider") (boolean true) (member (codes "codeLensProvider") lenses
-    (member (codes "completionProvider") completion (member (codes "definitionProvider") (boolean true)
-    (member (codes "documentFormattingProvider") (boolean true) (member (codes "documentLinkProvider") links
-    (member (codes "documentSymbolProvider") (boolean true) (member (codes "foldingRangeProvider") (boolean true)
-    (member (codes "hoverProvider") (boolean true) (member (codes "positionEncoding") (string encoding)
-    (member (codes "referencesProvider") (boolean true) (member (codes "renameProvider") rename
-    (member (codes "textDocumentSync") sync (member (codes "workspaceSymbolProvider") (boolean true)
-    no_members))))))))))))))
+-- what the server can do, as far as it has options or values of its own
+abbrev pub choices : List ℕ → Data → Data → Data → Data → Data → Data
+choices encoding completion rename sync links lenses =
+    object (member (codes "codeLensProvider") lenses (member (codes "completionProvider") completion
+    (member (codes "documentLinkProvider") links (member (codes "positionEncoding") (string encoding)
+    (member (codes "renameProvider") rename (member (codes "textDocumentSync") sync no_members))))))
 
--- the same, and that a range can be laid out
-abbrev pub ranged : Data → Data
-ranged null = null
-ranged (boolean b) = boolean b
-ranged (number n) = number n
-ranged (string words) = string words
-ranged (array ds) = array ds
-ranged (object ms) = object (put (codes "documentRangeFormattingProvider") (boolean true) ms)
+-- that each of some names is true, beside other members
+abbrev pub with_names : List (List ℕ) → Members → Members
+with_names [] ms = ms
+with_names (name ∷ names) ms = with_names names (put name (boolean true) ms)
+
+-- what else it can do
+abbrev pub ability_names : List (List ℕ)
+ability_names = map codes ("codeActionProvider" ∷ "definitionProvider" ∷ "documentFormattingProvider" ∷
+    "documentRangeFormattingProvider" ∷ "documentSymbolProvider" ∷ "foldingRangeProvider" ∷ "hoverProvider" ∷
+    "referencesProvider" ∷ "workspaceSymbolProvider" ∷ [])
+
+-- all that it can do
+abbrev pub abilities : Data → Data
+abilities null = null
+abilities (boolean b) = boolean b
+abilities (number n) = number n
+abilities (string words) = string words
+abilities (array ds) = array ds
+abilities (object ms) = object (with_names ability_names ms)
 
 -- the units in which positions count
 abbrev pub encoding_of : Bool → List ℕ
@@ -95,5 +101,5 @@ encoding_of counts_bytes = if counts_bytes then codes "utf-8" else codes "utf-16
 abbrev pub capabilities : Bool → Data
 capabilities counts_bytes =
     object (member (codes "capabilities")
-    (ranged (abilities (encoding_of counts_bytes) completion_options rename_options sync_options whole_options whole_options))
+    (abilities (choices (encoding_of counts_bytes) completion_options rename_options sync_options whole_options whole_options))
     (member (codes "serverInfo") (object (member (codes "name") (string (codes "bibtex-lsp")) no_members)) no_members))

@@ -6,7 +6,7 @@ ghost use Rattle.bt_places.specs.Editor.{counting_in};
 use crate::parameters::document_named;
 use bt_documents::Document;
 use bt_positions::Counting;
-use bt_style_findings::Checked;
+use bt_remarks::Checked;
 
 /// The open documents, what was found in styles, and the units of positions in the texts of other files.
 #[derive(Clone, Copy)]

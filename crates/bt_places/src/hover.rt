@@ -63,8 +63,8 @@ pub fn word_of(document: &Document, at: Position) -> &[u8]
     word_at(document.text.as_slice(), place)
 }
 
-/// The key at a position: in a database, that of the entry around it; elsewhere, the word around it.
-fn key_at(alloc: Global, document: &Document, at: Position) -> Result<Bytes, AllocError>
+/// The key at a position of a document: in a database, that of the entry around it; elsewhere, the word around it.
+pub fn key_at(alloc: Global, document: &Document, at: Position) -> Result<Bytes, AllocError>
     ensures { IfOk result (λ key. key ≡ key_at document.now at) }
 {
     if is_database(document.name.as_slice()) {

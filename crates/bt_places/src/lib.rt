@@ -22,7 +22,7 @@ pub use entries::{
     field_of, fields_of, has_extension, is_database, is_style, is_tex, item_around, key_of,
     kind_of, name_of, symbol_kind,
 };
-pub use hover::{hover_at, keys_at_end, word_of};
+pub use hover::{hover_at, key_at, keys_at_end, word_of};
 pub use mentioning::{citations_of, is_key, mention_at, mentions_of};
 pub use paper::Paper;
 pub use parameters::{

@@ -20,10 +20,10 @@ pub fn citations_of(
     ensures { IfOk result (λ found. found ≡ citations_of name.now text.now) }
 {
     if !is_tex(name) {
-        return citations(alloc, text);
+        return citations(alloc, false, text);
     }
     let text = closed(alloc, text)?;
-    let found = citations(alloc, text.as_slice())?;
+    let found = citations(alloc, true, text.as_slice())?;
     Ok(found)
 }
 
@@ -45,7 +45,7 @@ pub fn is_key(role: Role) -> bool
     ensures { result ≡ is_key role }
 {
     match role {
-        Role::Key | Role::Crossref | Role::Citation => true,
+        Role::Key | Role::Crossref | Role::Number | Role::Citation => true,
         Role::Definition | Role::Macro => false,
     }
 }

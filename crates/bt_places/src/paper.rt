@@ -1,8 +1,8 @@
 //! What the desk asks of a paper.
 
 use bt_documents::{Document, Files};
-use bt_lenses::{Lens, Origin};
 use bt_log::Message;
+use bt_remarks::{Lens, Origin};
 use bt_text::{Bytes, Sequence};
 use std::alloc::{AllocError, Global};
 

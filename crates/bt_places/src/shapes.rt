@@ -1,10 +1,10 @@
 //! Values of the protocol.
 
-ghost use Rattle.std.specs.Prelude.{◌≡◌, map, IfOk};
+ghost use Rattle.std.specs.Prelude.{◌≡◌, map, IfOk, OnOk};
 ghost use Rattle.std.specs.String.{string_bytes};
 ghost use Rattle.serde_json.specs.Data.{object};
 ghost use Rattle.serde_json.specs.View.{view, members_view};
-ghost use Rattle.bt_places.specs.Shapes.{diagnostic, published_params, published, contents, hover, shown_text, shown_status, completion_options, rename_options, sync_options, whole_options, abilities, ranged, encoding_of, capabilities};
+ghost use Rattle.bt_places.specs.Shapes.{diagnostic, published_params, published, contents, hover, shown_text, shown_status, completion_options, rename_options, sync_options, whole_options, choices, with_names, ability_names, abilities, encoding_of, capabilities};
 
 use crate::words::{is_utf8, shown};
 use bt_diagnostics::Diagnostic;
@@ -114,7 +114,8 @@ fn whole_options(alloc: Global) -> Result<Value, AllocError>
     json!(in alloc; {"resolveProvider": false})
 }
 
-fn abilities(
+/// The abilities that have options or values of their own.
+fn choices(
     alloc: Global,
     encoding: &str,
     completion: Value,
@@ -123,51 +124,63 @@ fn abilities(
     links: Value,
     lenses: Value,
 ) -> Result<Value, AllocError>
-    ensures { IfOk result (λ v. view v ≡ abilities encoding.now (view completion) (view rename) (view sync)
+    ensures { IfOk result (λ v. view v ≡ choices encoding.now (view completion) (view rename) (view sync)
         (view links) (view lenses)) }
 {
     json!(in alloc; {
-        "workspaceSymbolProvider": true,
         "textDocumentSync": sync,
         "renameProvider": rename,
-        "referencesProvider": true,
         "positionEncoding": encoding,
-        "hoverProvider": true,
-        "foldingRangeProvider": true,
-        "documentSymbolProvider": true,
         "documentLinkProvider": links,
-        "documentFormattingProvider": true,
-        "definitionProvider": true,
         "completionProvider": completion,
-        "codeLensProvider": lenses,
-        "codeActionProvider": true
+        "codeLensProvider": lenses
     })
 }
 
-fn with_range_layout(alloc: Global, able: Map<String, Value>) -> Result<Value, AllocError>
-    ensures { IfOk result (λ v. view v ≡ ranged (object (members_view able.entries))) }
+/// Says of each name that the server can do it.
+fn put_all(able: &mut Map<String, Value>, alloc: Global, names: &[&str]) -> Result<(), AllocError>
+    ensures { OnOk result (members_view able.new.entries ≡
+        with_names (map (λ name. name.now) names.now) (members_view able.old.entries)) }
 {
-    let mut all = able;
-    put(
-        &mut all,
-        alloc,
-        "documentRangeFormattingProvider",
-        Value::Bool(true),
-    )?;
-    Ok(Value::Object(all))
+    'names: for name in names {
+        put(able, alloc, name, Value::Bool(true))?;
+    }
+    Ok(())
 }
 
-/// Adds that a range can be laid out, to what the server can do. (One object of fifteen members is too large for a proof.)
-fn ranged(alloc: Global, able: Value) -> Result<Value, AllocError>
-    ensures { IfOk result (λ v. view v ≡ ranged (view able)) }
+fn with_abilities(alloc: Global, choices: Map<String, Value>) -> Result<Value, AllocError>
+    ensures { IfOk result (λ v. view v ≡ object (with_names ability_names (members_view choices.entries))) }
 {
-    match able {
+    let mut able = choices;
+    put_all(
+        &mut able,
+        alloc,
+        &[
+            "codeActionProvider",
+            "definitionProvider",
+            "documentFormattingProvider",
+            "documentRangeFormattingProvider",
+            "documentSymbolProvider",
+            "foldingRangeProvider",
+            "hoverProvider",
+            "referencesProvider",
+            "workspaceSymbolProvider",
+        ],
+    )?;
+    Ok(Value::Object(able))
+}
+
+/// Adds the abilities without options.
+fn abilities(alloc: Global, choices: Value) -> Result<Value, AllocError>
+    ensures { IfOk result (λ v. view v ≡ abilities (view choices)) }
+{
+    match choices {
         Value::Null => Ok(Value::Null),
         Value::Bool(value) => Ok(Value::Bool(value)),
         Value::Number(value) => Ok(Value::Number(value)),
         Value::String(value) => Ok(Value::String(value)),
         Value::Array(values) => Ok(Value::Array(values)),
-        Value::Object(members) => with_range_layout(alloc, members),
+        Value::Object(members) => with_abilities(alloc, members),
     }
 }
 
@@ -187,7 +200,7 @@ pub fn capabilities(alloc: Global, counts_bytes: bool) -> Result<Value, AllocErr
     let links = whole_options(alloc)?;
     let lenses = whole_options(alloc)?;
     let encoding = encoding_of(counts_bytes);
-    let able = abilities(alloc, encoding, completion, rename, sync, links, lenses)?;
-    let able = ranged(alloc, able)?;
+    let choices = choices(alloc, encoding, completion, rename, sync, links, lenses)?;
+    let able = abilities(alloc, choices)?;
     json!(in alloc; {"capabilities": able, "serverInfo": {"name": "bibtex-lsp"}})
 }

@@ -1,3 +1,5 @@
 pub mod LineLemmas
 pub mod StartLemmas
+pub mod WidthLemmas
+pub mod MarkLemmas
 pub mod laws

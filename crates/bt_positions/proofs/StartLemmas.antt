@@ -66,10 +66,10 @@ first_begins l zero [] e = refl
 first_begins l zero (b ∷ t) e = refl
 first_begins l (suc n) t e = absurd (omega (arith, e))
 
-place_step : (l : Lines) (n b : ℕ) (t : List ℕ) → place_of_line l (suc n) (b ∷ t) ≡ suc (place_of_line l (cond (ends_line l b t) n (suc n)) t)
+pub place_step : (l : Lines) (n b : ℕ) (t : List ℕ) → place_of_line l (suc n) (b ∷ t) ≡ suc (place_of_line l (cond (ends_line l b t) n (suc n)) t)
 place_step l n b t = grind (arith, common_steps)
 
-ends_step : (n b : ℕ) (t : List ℕ) → line_ends (suc n) (b ∷ t) ≡ cond (ends_line Editor b t) 1 0 + line_ends n t
+pub ends_step : (n b : ℕ) (t : List ℕ) → line_ends (suc n) (b ∷ t) ≡ cond (ends_line Editor b t) 1 0 + line_ends n t
 ends_step n b t = grind (arith, common_steps)
 
 pub place_within : (l : Lines) (n : ℕ) (t : List ℕ) → place_of_line l n t ≤ length t

@@ -2,6 +2,7 @@
 
 ghost use Rattle.std.specs.Prelude.{◌≡◌, ◌≤◌, ◌<◌, ◌*◌, ◌^◌, length};
 ghost use Rattle.bt_positions.specs.Units.{units, width, fitting};
+ghost use Rattle.bt_positions.specs.Lines.{first_line};
 
 /// The units that an editor counts in a text: bytes of UTF-8, or units of UTF-16. For a text in Latin-1 these are the
 /// bytes or units of the same characters in the editor's encoding.
@@ -36,8 +37,8 @@ fn units(counting: Counting, byte: u8) -> usize
     }
 }
 
-/// The units of a text.
-pub fn width(counting: Counting, bytes: &[u8]) -> usize
+/// The units of a text, counted byte by byte.
+fn counted_width(counting: Counting, bytes: &[u8]) -> usize
     requires { 2 * length bytes.now < 2 ^ 64 }
     ensures { result ≡ width counting bytes.now }
 {
@@ -50,17 +51,28 @@ pub fn width(counting: Counting, bytes: &[u8]) -> usize
     count
 }
 
-/// How many bytes of a line precede a character: as many as fit into that many units.
-pub fn fitting(counting: Counting, character: usize, line: &[u8]) -> usize
-    ensures value { result ≡ fitting counting character line.now }
-    ensures within { result ≤ length line.now }
+/// The units of a text.
+pub fn width(counting: Counting, bytes: &[u8]) -> usize
+    requires { 2 * length bytes.now < 2 ^ 64 }
+    ensures { result ≡ width counting bytes.now }
+{
+    match counting {
+        Counting::Utf8 | Counting::LatinAsUtf16 => bytes.len(),
+        Counting::Utf16 | Counting::LatinAsUtf8 => counted_width(counting, bytes),
+    }
+}
+
+/// How many bytes of a text's first line precede a character: as many as fit into that many units.
+pub fn fitting(counting: Counting, character: usize, text: &[u8]) -> usize
+    ensures value { result ≡ fitting counting character (first_line text.now) }
+    ensures within { result ≤ length text.now }
 {
     let mut left = character;
     let mut place = 0;
-    let mut rest = line;
+    let mut rest = text;
     'bytes: while let [first, others @ ..] = rest {
         let width = units(counting, *first);
-        if width > left {
+        if *first == b'\n' || *first == b'\r' || width > left {
             return place;
         }
         left -= width;

@@ -1,13 +1,16 @@
-//! A text with the offsets of its lines, so that a position is found without a pass over the text.
+//! A text with the offsets of its lines and its marks, so that a position is found without a pass over the text or its line.
 
 ghost use Rattle.std.specs.Prelude.{◌≡◌, ◌≤◌, ◌<◌, ◌*◌, ◌^◌, length, IfOk};
+ghost use Rattle.bt_positions.specs.declared.counting.Counting.TheVariants.{Utf16, LatinAsUtf8};
 ghost use Rattle.bt_positions.specs.declared.lines.Lines.TheVariants.{Editor, Bibtex};
-ghost use Rattle.bt_positions.specs.Lines.{place_of_line, line_ends};
+ghost use Rattle.bt_positions.specs.Lines.{place_of_line};
 ghost use Rattle.bt_positions.specs.Positions.{offset_of, position_of};
 ghost use Rattle.bt_positions.specs.inner.LineStarts.{line_starts};
+ghost use Rattle.bt_positions.specs.inner.Marks.{marks_of};
 
-use crate::counting::{Counting, fitting, width};
-use crate::lines::{Lines, first_line, line_starts};
+use crate::counting::{Counting, fitting};
+use crate::lines::{Lines, line_begin, line_starts, lines_before};
+use crate::marks::{character_at, line_at, marks_of, spot_near};
 use std::alloc::{AllocError, Global};
 use std::marker::Model;
 
@@ -24,8 +27,12 @@ pub struct IndexedText {
     bytes: Vec<u8>,
     editor: Vec<usize>,
     bibtex: Vec<usize>,
+    utf16: Vec<usize>,
+    latin: Vec<usize>,
     ghost editor_starts: { editor.items ≡ line_starts Editor 0 bytes.items },
     ghost bibtex_starts: { bibtex.items ≡ line_starts Bibtex 0 bytes.items },
+    ghost utf16_marks: { utf16.items ≡ marks_of Utf16 (length utf16.items) bytes.items },
+    ghost latin_marks: { latin.items ≡ marks_of LatinAsUtf8 (length latin.items) bytes.items },
 }
 
 impl Model for IndexedText {
@@ -36,28 +43,6 @@ impl Model for IndexedText {
     ghost view = { λ t. t.bytes.items };
 }
 
-/// The offset at which a line begins, counted from 0, of a text with these line starts.
-fn line_begin(text: &[u8], lines: Lines, starts: &[usize], line: u128) -> usize
-    requires { starts.now ≡ line_starts lines 0 text.now }
-    ensures value { result ≡ place_of_line lines line text.now }
-{
-    if line == 0 {
-        0
-    } else if line > starts.len() as u128 {
-        text.len()
-    } else {
-        starts[(line - 1) as usize]
-    }
-}
-
-/// How many of an editor's lines end within the first `offset` bytes of a text with these line starts.
-fn lines_before(text: &[u8], starts: &[usize], offset: usize) -> usize
-    requires { starts.now ≡ line_starts Editor 0 text.now }
-    ensures value { result ≡ line_ends offset text.now }
-{
-    starts.partition_point(|start| *start <= offset)
-}
-
 impl IndexedText {
     /// The text of these bytes.
     pub fn new(alloc: Global, bytes: Vec<u8>) -> Result<IndexedText, AllocError>
@@ -65,10 +50,19 @@ impl IndexedText {
     {
         let editor = line_starts(alloc, Lines::Editor, bytes.as_slice())?;
         let bibtex = line_starts(alloc, Lines::Bibtex, bytes.as_slice())?;
+        let utf16 = marks_of(alloc, Counting::Utf16, bytes.as_slice(), editor.as_slice())?;
+        let latin = marks_of(
+            alloc,
+            Counting::LatinAsUtf8,
+            bytes.as_slice(),
+            editor.as_slice(),
+        )?;
         Ok(IndexedText {
             bytes,
             editor,
             bibtex,
+            utf16,
+            latin,
         })
     }
 
@@ -99,6 +93,17 @@ impl IndexedText {
         line_begin(self.bytes.as_slice(), lines, starts, line)
     }
 
+    /// Marks of the text in these units. If each byte is a unit, none are needed.
+    fn marks(&self, counting: Counting) -> &[usize]
+        ensures { result.now ≡ marks_of counting (length result.now) self.now }
+    {
+        match counting {
+            Counting::Utf8 | Counting::LatinAsUtf16 => &[],
+            Counting::Utf16 => self.utf16.as_slice(),
+            Counting::LatinAsUtf8 => self.latin.as_slice(),
+        }
+    }
+
     /// The offset of a position. A character after its line's end gives the line's end, and a line after the last one
     /// gives the text's end. The second unit of a character in UTF-16 gives that character's beginning; in UTF-8 a position
     /// inside a character gives an offset inside it.
@@ -106,9 +111,17 @@ impl IndexedText {
         ensures value { result ≡ offset_of counting position self.now }
         ensures within { result ≤ length self.now }
     {
-        let start = self.line_begin(Lines::Editor, position.line as u128);
-        let (_, rest) = self.bytes.as_slice().split_at(start);
-        start + fitting(counting, position.character, first_line(rest))
+        let text = self.bytes.as_slice();
+        let line = line_at(text, self.editor.as_slice(), position.line);
+        let spot = spot_near(
+            text,
+            counting,
+            self.marks(counting),
+            line,
+            position.character,
+        );
+        let (_, rest) = text.split_at(spot.place);
+        spot.place + fitting(counting, position.character - spot.units, rest)
     }
 
     /// The position of an offset.
@@ -121,7 +134,13 @@ impl IndexedText {
         let start = self.line_begin(Lines::Editor, line as u128).min(offset);
         Position {
             line,
-            character: width(counting, &self.bytes[start..offset]),
+            character: character_at(
+                self.bytes.as_slice(),
+                counting,
+                self.marks(counting),
+                start,
+                offset,
+            ),
         }
     }
 }

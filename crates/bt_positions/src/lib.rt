@@ -4,12 +4,14 @@
 //! BibTeX's files are bytes and may be in no encoding at all, so every offset of every text has a position: bytes that
 //! aren't UTF-8 count as their form suggests. A file in Latin-1 reaches the editor as UTF-8; `Counting` has its widths.
 //!
-//! A text keeps the offsets of its lines (`IndexedText`), because an editor asks for many positions of one text.
+//! A text keeps the offsets of its lines and of some characters (`IndexedText`), because an editor asks for many positions
+//! of one text, and a text may be one long line.
 #![tactic(auto)]
 
 mod counting;
 mod indexed_text;
 mod lines;
+mod marks;
 
 pub use counting::Counting;
 pub use indexed_text::{IndexedText, Position};

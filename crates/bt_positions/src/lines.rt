@@ -1,7 +1,8 @@
 //! The lines of a text: where they begin, and the first one.
 
 ghost use Rattle.std.specs.Prelude.{◌≡◌, ◌≤◌, [], ◌∷◌, ◌++◌, length, if◌then◌else◌, IfOk, OnOk};
-ghost use Rattle.bt_positions.specs.Lines.{begins_with_feed, ends_line, first_line};
+ghost use Rattle.bt_positions.specs.declared.lines.Lines.TheVariants.{Editor};
+ghost use Rattle.bt_positions.specs.Lines.{begins_with_feed, ends_line, first_line, line_ends, place_of_line};
 ghost use Rattle.bt_positions.specs.inner.LineStarts.{line_starts};
 
 use memchr::memchr2;
@@ -16,7 +17,6 @@ pub enum Lines {
     Bibtex,
 }
 
-/// Whether a text begins with a line feed.
 fn begins_with_feed(text: &[u8]) -> bool
     ensures { result ≡ begins_with_feed text.now }
 {
@@ -62,21 +62,37 @@ pub fn line_starts(alloc: Global, lines: Lines, text: &[u8]) -> Result<Vec<usize
     Ok(starts)
 }
 
+/// The offset at which a line begins, counted from 0, of a text with these line starts.
+pub fn line_begin(text: &[u8], lines: Lines, starts: &[usize], line: u128) -> usize
+    requires { starts.now ≡ line_starts lines 0 text.now }
+    ensures value { result ≡ place_of_line lines line text.now }
+{
+    if line == 0 {
+        0
+    } else if line > starts.len() as u128 {
+        text.len()
+    } else {
+        starts[(line - 1) as usize]
+    }
+}
+
+/// How many of an editor's lines end within the first `offset` bytes of a text with these line starts.
+pub fn lines_before(text: &[u8], starts: &[usize], offset: usize) -> usize
+    requires { starts.now ≡ line_starts Editor 0 text.now }
+    ensures value { result ≡ line_ends offset text.now }
+{
+    starts.partition_point(|start| *start <= offset)
+}
+
 /// The length of the first line, without its end.
 fn first_line_len(text: &[u8]) -> usize
     ensures value { result ≡ length (first_line text.now) }
     ensures within { result ≤ length text.now }
 {
-    let mut count = 0;
-    let mut rest = text;
-    'bytes: while let [first, others @ ..] = rest {
-        if *first == b'\n' || *first == b'\r' {
-            return count;
-        }
-        count += 1;
-        rest = others;
+    match memchr2(b'\n', b'\r', text) {
+        Some(count) => count,
+        None => text.len(),
     }
-    count
 }
 
 /// The text up to its first CR or LF.

@@ -3,7 +3,7 @@ use Rattle.std.specs.Prelude.{ℕ, ℤ, negsuc, Bool, true, false, not, ◌||◌
 use Rattle.serde_json.specs.Data.{Data, null, boolean, number, negative, string, array, object, member, no_members}
 use Rattle.serde_json.specs.Find.{get, as_str, is_float}
 use Rattle.bt_rpc.specs.declared.answers.RpcError.{RpcError}
-use Rattle.bt_rpc.specs.declared.answers.RpcError.TheVariants.{ParseError, InvalidRequest, MethodNotFound, InvalidParams, InternalError, ServerNotInitialized, BadName, TakenName, UndefinedMacro, UndeclaredName}
+use Rattle.bt_rpc.specs.declared.answers.RpcError.TheVariants.{ParseError, InvalidRequest, MethodNotFound, InvalidParams, InternalError, ServerNotInitialized, BadName, TakenName, UndefinedMacro, InexactRename, UndeclaredName}
 
 -- what a value is as a message
 pub data Kind : Type 0 where
@@ -58,6 +58,7 @@ code_of ServerNotInitialized = negsuc 32001
 code_of BadName = negsuc 32802
 code_of TakenName = negsuc 32802
 code_of UndefinedMacro = negsuc 32802
+code_of InexactRename = negsuc 32802
 code_of UndeclaredName = negsuc 32802
 
 -- the words of an error
@@ -70,7 +71,8 @@ words_of InternalError = codes "out of memory, or the message is too large"
 words_of ServerNotInitialized = codes "the server isn't initialized"
 words_of BadName = codes "this can't be a name"
 words_of TakenName = codes "this name is taken"
-words_of UndefinedMacro = codes "no database defines this macro: it is the style's"
+words_of UndefinedMacro = codes "the style defines this macro, or no database does"
+words_of InexactRename = codes "the rename would miss the name, or change more, as in a value joined with #"
 words_of UndeclaredName = codes "the style doesn't declare this name"
 
 -- the answer to a request that has a result

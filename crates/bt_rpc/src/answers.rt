@@ -24,8 +24,12 @@ pub enum RpcError {
     BadName,
     /// A rename is refused: something else has this name.
     TakenName,
-    /// A rename is refused: no file that it edits defines the macro, so all its uses would become undefined.
+    /// A rename is refused: the style defines the macro, or no file does. The style isn't edited, so uses of the macro would
+    /// become undefined.
     UndefinedMacro,
+    /// A rename is refused: after its edits, the items of a database would not be those before with the name changed, for
+    /// example because a cross-reference joins the key from several texts.
+    InexactRename,
     /// A rename is refused: the style doesn't declare this name.
     UndeclaredName,
 }
@@ -41,7 +45,7 @@ fn code_of(error: RpcError) -> i64
         RpcError::InternalError => -32603,
         RpcError::ServerNotInitialized => -32002,
         RpcError::BadName | RpcError::TakenName => -32803,
-        RpcError::UndefinedMacro | RpcError::UndeclaredName => -32803,
+        RpcError::UndefinedMacro | RpcError::InexactRename | RpcError::UndeclaredName => -32803,
     }
 }
 
@@ -57,7 +61,9 @@ fn words_of(error: RpcError) -> &'static str
         RpcError::ServerNotInitialized => "the server isn't initialized",
         RpcError::BadName => "this can't be a name",
         RpcError::TakenName => "this name is taken",
-        RpcError::UndefinedMacro => "no database defines this macro: it is the style's",
+        RpcError::UndefinedMacro => "the style defines this macro, or no database does",
+        RpcError::InexactRename =>
+            "the rename would miss the name, or change more, as in a value joined with #",
         RpcError::UndeclaredName => "the style doesn't declare this name",
     }
 }

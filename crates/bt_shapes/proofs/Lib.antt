@@ -1,2 +1,4 @@
 pub mod MoreLemmas
 pub mod PlainLists
+pub mod TextLemmas
+pub mod rows

@@ -1,6 +1,6 @@
 -- Values of the protocol.
 use Rattle.std.specs.Prelude.{ℕ, min, nat_lt, if◌then◌else◌, List, length, codes, Option, Some, None}
-use Rattle.std.specs.Str.Lossy.{utf8_lossy}
+use Rattle.bt_shapes.specs.Text.{as_utf8}
 use Rattle.serde_json.specs.Data.{Data, null, number, unsigned, string, array, object, member, no_members}
 use Rattle.serde_json.specs.View.{items_of}
 use Rattle.bt_positions.specs.Positions.{position_of}
@@ -22,9 +22,9 @@ abbrev pub range_of : Counting → List ℕ → ℕ → ℕ → Data
 range_of c words from to =
     range (position_of c (min from (length words)) words) (position_of c (min to (length words)) words)
 
--- bytes as a text, with U+FFFD for what isn't UTF-8
+-- bytes as a text
 abbrev pub text : List ℕ → Data
-text bytes = string (utf8_lossy bytes)
+text bytes = string (as_utf8 bytes)
 
 -- a part of a file
 abbrev pub location : List ℕ → Data → Data

@@ -15,7 +15,6 @@ use bt_streams::Ahead;
 use serde_json::Value;
 use std::alloc::{AllocError, Global};
 
-/// One message: an error with this id.
 #[tactic(auto, using(crate::proofs::PlainLemmas::error_plain))]
 fn error_to(alloc: Global, id: &Value, error: RpcError) -> Result<Vec<Value>, AllocError>
     requires { has_float (view id.now) ≡ false }
@@ -27,7 +26,6 @@ fn error_to(alloc: Global, id: &Value, error: RpcError) -> Result<Vec<Value>, Al
     Ok(said)
 }
 
-/// The answer to a request with this outcome.
 fn answer_to(
     alloc: Global,
     id: &Value,

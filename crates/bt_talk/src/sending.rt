@@ -37,7 +37,6 @@ impl<T: Drop> From<AllocFailed<T>> for TalkFault {
     }
 }
 
-/// Writes a message in its frame.
 fn send<K: Sink>(alloc: Global, sink: &mut K, message: &Value) -> Result<(), TalkFault>
     requires failures { (K.seen sink.old).failures < 2 ^ 64 - 1 }
     requires plain { has_float (view message.now) ≡ false }

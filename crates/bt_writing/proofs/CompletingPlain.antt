@@ -49,8 +49,8 @@ citation_plain fs d at =
 
 offers_plain : (fs : List (List ℕ × List ℕ)) (present : List Field) (offer : Offer) (w : Written) → has_float (offers fs present offer w) ≡ false
 offers_plain fs present Nothing w = refl
-offers_plain fs present Types w = items_plain (type_candidates fs) (types_plain fs)
-offers_plain fs present Fields w = items_plain (field_candidates fs present) (fields_plain fs present)
+offers_plain fs present Types w = items_plain (type_candidates w fs) (types_plain w fs)
+offers_plain fs present Fields w = items_plain (field_candidates fs present w) (fields_plain fs present w)
 offers_plain fs present Keys w = items_plain (candidates_in w fs) (candidates_in_plain w fs)
 offers_plain fs present Macros w = items_plain (macro_candidates w fs) (macros_plain w fs)
 

@@ -1,5 +1,5 @@
 -- The features' values have no floats.
-use Rattle.std.proofs.Common.{◌≡◌, ℕ, List, [], ◌∷◌, length, refl, false, Option, Some, None}
+use Rattle.std.proofs.Common.{◌≡◌, ℕ, codes, List, [], ◌∷◌, ◌++◌, length, refl, false, Option, Some, None}
 use Rattle.std.specs.Prelude.{nat_lt, not, ◌||◌}
 use Rattle.std.specs.List.{AllByRecursion, fold}
 use Rattle.serde_json.specs.Written.{has_float}
@@ -24,12 +24,16 @@ use Rattle.bt_answers.specs.References.{is_definition}
 use Rattle.bt_style_answers.specs.declared.references.Lent.TheVariants as lent
 use Rattle.bt_answers.specs.Lending.{with_lent}
 use Rattle.bt_writing.specs.Finding.{type_places}
-use Rattle.bt_style.specs.Program.{Program, Definition}
-use Rattle.bt_writing.specs.Fields.{program, has_field, ordered_candidate, with_field, with_program, with_style, field_candidates}
+use Rattle.bt_style_text.specs.declared.marks.Mark.{Mark}
+use Rattle.bt_style_text.specs.Parts as style
+use Rattle.bt_style_text.specs.Marks.{marks_of}
+use Rattle.bt_writing.specs.Fields.{has_field, with_field, with_read, with_fields, with_style, field_candidates}
 use Rattle.bt_writing.specs.Completing.{with_macro, with_macros, macro_candidates}
-use Rattle.bt_writing.specs.StyleMacros.{macro_candidate, with_style_macro, with_program_macros, with_macros_of}
+use Rattle.bt_writing.specs.StyleMacros.{macro_candidate, with_style_macro, with_macros_in, with_macros_of}
 use Rattle.bt_writing.specs.declared.written.Written.{Written}
-use Rattle.bt_writing.specs.Types.{word_of, types, has_function, with_type, with_program_types, with_types_of, or_standard, type_candidates}
+use Rattle.bt_writing.specs.Written.{ordered_item}
+use Rattle.bt_writing.specs.StyleNames.{is_macro, is_read, has_function, is_type}
+use Rattle.bt_writing.specs.Types.{word_of, types, is_standard, with_type, with_own_type, with_types_in, with_types_of, or_standard, type_candidates}
 use Rattle.bt_places.specs.Visiting.{with_files, is_any}
 use Rattle.bt_places.proofs.PlainLists.{items_plain, all_both, none_or, some_or_null, either_plain, fold_plain, pushed_plain, files_plain}
 use Rattle.bt_places.proofs.FeaturePlain.{picked_plain}
@@ -46,14 +50,10 @@ added_macros_plain : (w : Written) (list : List Data) (uri text : List ℕ) → 
 added_macros_plain w list uri text p =
     picked_plain (λ u. with_macro w) (λ u t l m q. pushed_plain (is_definition m.role) (macro_candidate w (part m.from m.to t)) l refl q) list uri text p
 
-style_macro_plain : (w : Written) (list : List Data) (p : Option Program) → AllByRecursion HasNoFloat list → AllByRecursion HasNoFloat (with_program_macros w list p)
-style_macro_plain w list None p = p
-style_macro_plain w list (Some q) p =
-    fold_plain (with_style_macro w) (λ l m r. all_both HasNoFloat l (macro_candidate w m.name ∷ []) r (refl, tt)) q.macros list p
-
 style_macros_plain : (w : Written) (list : List Data) (uri words : List ℕ) → AllByRecursion HasNoFloat list → AllByRecursion HasNoFloat (with_macros_of w list uri words)
 style_macros_plain w list uri words p =
-    either_plain (is_style uri) (with_program_macros w list (program words)) list (style_macro_plain w list (program words) p) p
+    either_plain (is_style uri) (with_macros_in w list words) list
+    (fold_plain (with_style_macro w words) (λ l m r. pushed_plain (is_macro m.role) (macro_candidate w (style.part m.start m.end words)) l refl r) (marks_of words) list p) p
 
 pub macros_plain : (w : Written) (files : List (List ℕ × List ℕ)) → AllByRecursion HasNoFloat (macro_candidates w files)
 macros_plain w files =
@@ -61,35 +61,44 @@ macros_plain w files =
 
 -- ---- fields
 
-program_plain : (present : List Field) (list : List Data) (p : Option Program) → AllByRecursion HasNoFloat list → AllByRecursion HasNoFloat (with_program present list p)
-program_plain present list None p = p
-program_plain present list (Some q) p =
-    fold_plain (with_field present) (λ l name r. all_both HasNoFloat l (ordered_candidate 5 name (has_field present name) ∷ []) r (refl, tt)) q.fields list p
+field_plain : (present : List Field) (w : Written) (name : List ℕ) (list : List Data) → AllByRecursion HasNoFloat list → AllByRecursion HasNoFloat (with_field present w list name)
+field_plain present w name list p = all_both HasNoFloat list (ordered_item w 5 name (has_field present name) ∷ []) p (refl, tt)
 
-style_plain : (present : List Field) (list : List Data) (uri words : List ℕ) → AllByRecursion HasNoFloat list → AllByRecursion HasNoFloat (with_style present list uri words)
-style_plain present list uri words p = either_plain (is_style uri) (with_program present list (program words)) list (program_plain present list (program words) p) p
+all_fields_plain : (present : List Field) (w : Written) (text : List ℕ) (marks : List Mark) (list : List Data) → AllByRecursion HasNoFloat list → AllByRecursion HasNoFloat (fold (with_read present w text marks) list marks)
+all_fields_plain present w text marks list p =
+    fold_plain (with_read present w text marks) (λ l m r. either_plain (is_read text marks m) (with_field present w l (style.part m.start m.end text)) l
+    (field_plain present w (style.part m.start m.end text) l r) r) marks list p
 
-pub fields_plain : (files : List (List ℕ × List ℕ)) (present : List Field) → AllByRecursion HasNoFloat (field_candidates files present)
-fields_plain files present = files_plain (with_style present) (style_plain present) files [] tt
+style_plain : (present : List Field) (w : Written) (list : List Data) (uri text : List ℕ) → AllByRecursion HasNoFloat list → AllByRecursion HasNoFloat (with_style present w list uri text)
+style_plain present w list uri text p =
+    either_plain (is_style uri) (with_fields present w list text) list
+    (all_fields_plain present w text (marks_of text) (with_field present w list (codes "crossref")) (field_plain present w (codes "crossref") list p)) p
+
+pub fields_plain : (files : List (List ℕ × List ℕ)) (present : List Field) (w : Written) → AllByRecursion HasNoFloat (field_candidates files present w)
+fields_plain files present w = files_plain (with_style present w) (style_plain present w) files [] tt
 
 -- ---- types
 
-all_types_plain : (fs : List Definition) (list : List Data) → AllByRecursion HasNoFloat list → AllByRecursion HasNoFloat (fold (with_type fs) list types)
-all_types_plain fs list p =
-    fold_plain (with_type fs) (λ l t r. all_both HasNoFloat l (ordered_candidate 7 (word_of t) (not (has_function fs (word_of t))) ∷ []) r (refl, tt)) types list p
+all_types_plain : (w : Written) (text : List ℕ) (marks : List Mark) (list : List Data) → AllByRecursion HasNoFloat list → AllByRecursion HasNoFloat (fold (with_type w text marks) list types)
+all_types_plain w text marks list p =
+    fold_plain (with_type w text marks) (λ l t r. all_both HasNoFloat l (ordered_item w 7 (word_of t) (not (has_function text marks (word_of t))) ∷ []) r (refl, tt)) types list p
 
-program_types_plain : (list : List Data) (p : Option Program) → AllByRecursion HasNoFloat list → AllByRecursion HasNoFloat (with_program_types list p)
-program_types_plain list None p = p
-program_types_plain list (Some q) p = all_types_plain q.functions list p
+own_types_plain : (w : Written) (text : List ℕ) (marks rest : List Mark) (list : List Data) → AllByRecursion HasNoFloat list → AllByRecursion HasNoFloat (fold (with_own_type w text marks) list rest)
+own_types_plain w text marks rest list p =
+    fold_plain (with_own_type w text marks) (λ l m r. either_plain (not (is_type text marks m) || is_standard (style.part m.start m.end text)) l
+    (l ++ ordered_item w 7 (style.part m.start m.end text) false ∷ []) r (all_both HasNoFloat l (ordered_item w 7 (style.part m.start m.end text) false ∷ []) r (refl, tt))) rest list p
 
-added_types_plain : (list : List Data) (uri words : List ℕ) → AllByRecursion HasNoFloat list → AllByRecursion HasNoFloat (with_types_of list uri words)
-added_types_plain list uri words p = either_plain (is_style uri) (with_program_types list (program words)) list (program_types_plain list (program words) p) p
+added_types_plain : (w : Written) (list : List Data) (uri text : List ℕ) → AllByRecursion HasNoFloat list → AllByRecursion HasNoFloat (with_types_of w list uri text)
+added_types_plain w list uri text p =
+    let marks = marks_of text in
+    either_plain (is_style uri) (with_types_in w list text) list
+    (own_types_plain w text marks marks (fold (with_type w text marks) list types) (all_types_plain w text marks list p)) p
 
-standard_plain : (list : List Data) → AllByRecursion HasNoFloat list → AllByRecursion HasNoFloat (or_standard list)
-standard_plain list p = either_plain (is_any list) list (fold (with_type []) [] types) p (all_types_plain [] [] tt)
+standard_plain : (w : Written) (list : List Data) → AllByRecursion HasNoFloat list → AllByRecursion HasNoFloat (or_standard w list)
+standard_plain w list p = either_plain (is_any list) list (fold (with_type w [] []) [] types) p (all_types_plain w [] [] [] tt)
 
-pub types_plain : (files : List (List ℕ × List ℕ)) → AllByRecursion HasNoFloat (type_candidates files)
-types_plain files = standard_plain (with_files with_types_of files []) (files_plain with_types_of added_types_plain files [] tt)
+pub types_plain : (w : Written) (files : List (List ℕ × List ℕ)) → AllByRecursion HasNoFloat (type_candidates w files)
+types_plain w files = standard_plain w (with_files (with_types_of w) files []) (files_plain (with_types_of w) (added_types_plain w) files [] tt)
 
 -- ---- actions
 

@@ -1,8 +1,7 @@
 pub mod RespellingPlain
 pub mod FeaturePlain
-pub mod TrialsPlain
+pub mod StyleActionsPlain
 pub mod CompletingPlain
 pub mod PlainLemmas
 pub mod FileLemmas
 pub mod MoreLemmas
-pub mod TypeLemmas

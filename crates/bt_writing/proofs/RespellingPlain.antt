@@ -7,7 +7,8 @@ use Rattle.bt_bib.specs.declared.placed_pieces.PlacedPiece.{PlacedPiece}
 use Rattle.bt_documents.specs.declared.document.Document.{Document}
 use Rattle.bt_mentions.specs.declared.mention.Mention.{Mention}
 use Rattle.bt_mentions.specs.Databases.{part, with_piece}
-use Rattle.bt_writing.specs.Respelling.{respelled, respelling_at, with_own, is_parent, with_respelling, with_respellings_around}
+use Rattle.bt_mentions.specs.Inside.{is_parent}
+use Rattle.bt_writing.specs.Respelling.{respelled, respelling_at, with_own, with_respelling, with_respellings_around}
 use Rattle.bt_places.proofs.PlainLists.{all_both, either_plain, fold_plain}
 
 own_plain : (d : Document) (m : Mention) (o : Option (List ℕ)) (list : List Data) → AllByRecursion HasNoFloat list → AllByRecursion HasNoFloat (with_own d m list o)

@@ -24,7 +24,7 @@ use Rattle.bt_mentions.specs.Databases.{part, inside_item}
 use Rattle.bt_writing.specs.declared.actions.Missing.{Missing}
 use Rattle.bt_writing.specs.declared.actions.Missing.TheVariants.{Comma, End, Brace as OfBrace, Quote as OfQuote, ValueEnd}
 use Rattle.bt_writing.specs.declared.actions.Fix.{Fix}
-use Rattle.bt_writing.specs.Completing.{begins_item}
+use Rattle.bt_writing.specs.Written.{begins_item}
 use Rattle.bt_places.specs.Entries.{key_of, item_around, is_database}
 use Rattle.bt_writing.specs.Finding.{place_in}
 use Rattle.bt_writing.specs.ItemEnds.{begins_field, is_line_end, last_word}

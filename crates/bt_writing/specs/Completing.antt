@@ -1,5 +1,5 @@
 -- Completes types, fields, keys and macros in a database, and keys in citations.
-use Rattle.std.specs.Prelude.{ℕ, ◌==◌, ◌&&◌, not, nat_lt, Bool, false, if◌then◌else◌, List, [], ◌∷◌, ◌++◌, length, Option, Some, None}
+use Rattle.std.specs.Prelude.{ℕ, ◌==◌, ◌&&◌, nat_lt, Bool, if◌then◌else◌, List, [], ◌∷◌, ◌++◌, length, Option, Some, None}
 use Rattle.std.specs.List.{list_any}
 use Rattle.serde_json.specs.Data.{Data, null, array}
 use Rattle.serde_json.specs.View.{items_of}
@@ -12,7 +12,7 @@ use Rattle.bt_documents.specs.declared.document.Document.{Document}
 use Rattle.bt_mentions.specs.declared.inside.Inside.{Inside}
 use Rattle.bt_mentions.specs.declared.inside.Inside.TheVariants.{Name, Value, Braced, Quoted}
 use Rattle.bt_mentions.specs.declared.mention.Mention.{Mention}
-use Rattle.bt_mentions.specs.Databases.{part, is_opening, inside_item}
+use Rattle.bt_mentions.specs.Databases.{part, inside_item}
 use Rattle.bt_writing.specs.declared.completing.Offer.{Offer}
 use Rattle.bt_writing.specs.declared.completing.Offer.TheVariants.{Nothing, Types, Fields, Keys, Macros}
 use Rattle.bt_writing.specs.Citing.{candidates_in, citation_at}
@@ -24,7 +24,7 @@ use Rattle.bt_writing.specs.StyleMacros.{macro_candidate, with_style_macros}
 use Rattle.bt_writing.specs.Types.{type_candidates}
 use Rattle.bt_places.specs.Visiting.{with_files}
 use Rattle.bt_writing.specs.declared.written.Written.{Written}
-use Rattle.bt_writing.specs.Written.{written_len, written_at}
+use Rattle.bt_writing.specs.Written.{is_head, written_len, written_at}
 
 -- whether a text has a comma
 abbrev pub has_comma : List ℕ → Bool
@@ -40,15 +40,6 @@ offer_in comma (Name found) = if comma then Fields else Nothing
 offer_in comma (Value is_crossref) = if is_crossref then Keys else Macros
 offer_in comma (Braced is_crossref depth) = enclosed_offer is_crossref depth
 offer_in comma (Quoted is_crossref depth) = enclosed_offer is_crossref depth
-
--- whether a text begins with an `@`
-abbrev pub begins_item : List ℕ → Bool
-begins_item [] = false
-begins_item (b ∷ t) = b == 64
-
--- whether an item's first bytes are an `@` and a part of its type
-abbrev pub is_head : List ℕ → Bool
-is_head front = begins_item front && not (list_any is_opening front)
 
 -- what is offered where an item's first bytes end, after its type; fields come after the comma that ends the key
 abbrev pub offer_inside : List ℕ → Offer
@@ -84,8 +75,8 @@ macro_candidates w files = with_style_macros w files (with_files (with_macros w)
 -- what is offered from files to an entry that has these fields
 abbrev pub offers : List (List ℕ × List ℕ) → List Field → Offer → Written → Data
 offers files present Nothing w = null
-offers files present Types w = array (items_of (type_candidates files))
-offers files present Fields w = array (items_of (field_candidates files present))
+offers files present Types w = array (items_of (type_candidates w files))
+offers files present Fields w = array (items_of (field_candidates files present w))
 offers files present Keys w = array (items_of (candidates_in w files))
 offers files present Macros w = array (items_of (macro_candidates w files))
 

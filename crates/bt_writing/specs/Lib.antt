@@ -1,5 +1,6 @@
 pub mod ItemEnds
 pub mod Written
+pub mod StyleNames
 pub mod Fields
 pub mod StyleMacros
 pub mod Types
@@ -9,4 +10,5 @@ pub mod Respelling
 pub mod Actions
 pub mod Finding
 pub mod Citing
-pub mod Trials
+pub mod Spellings
+pub mod StyleActions

@@ -1,14 +1,13 @@
 -- Spells a cross-reference like the entry that it names.
-use Rattle.std.specs.Prelude.{ℕ, Bool, true, false, if◌then◌else◌, List, [], ◌∷◌, ◌++◌, codes, bytes_eq, Option, Some, None}
+use Rattle.std.specs.Prelude.{ℕ, if◌then◌else◌, List, [], ◌∷◌, ◌++◌, codes, bytes_eq, Option, Some, None}
 use Rattle.std.specs.List.{fold}
 use Rattle.serde_json.specs.Data.{Data}
 use Rattle.bt_text.specs.CaseFolding.{is_same_folded}
 use Rattle.bt_bib.specs.declared.placed_pieces.PlacedPiece.{PlacedPiece}
 use Rattle.bt_documents.specs.declared.document.Document.{Document}
-use Rattle.bt_mentions.specs.declared.mention.Role.{Role}
-use Rattle.bt_mentions.specs.declared.mention.Role.TheVariants.{Key, Crossref, Citation, Definition, Macro}
 use Rattle.bt_mentions.specs.declared.mention.Mention.{Mention}
 use Rattle.bt_mentions.specs.Databases.{part, with_piece}
+use Rattle.bt_mentions.specs.Inside.{is_parent}
 use Rattle.bt_places.specs.Entries.{key_of}
 use Rattle.bt_writing.specs.QuickFix.{action, edit_at}
 
@@ -34,14 +33,6 @@ respelling_at d m own = action (codes "Spell the key like its entry") (edit_at d
 abbrev pub with_own : Document → Mention → List Data → Option (List ℕ) → List Data
 with_own d m list None = list
 with_own d m list (Some own) = list ++ respelling_at d m own ∷ []
-
--- whether a key is mentioned as a parent's
-abbrev pub is_parent : Role → Bool
-is_parent Key = false
-is_parent Crossref = true
-is_parent Citation = false
-is_parent Definition = false
-is_parent Macro = false
 
 -- a list with the action that spells a cross-reference like its entry, if that is spelled otherwise
 abbrev pub with_respelling : Document → List PlacedPiece → List Data → Mention → List Data

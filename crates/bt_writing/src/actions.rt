@@ -5,11 +5,11 @@ ghost use Rattle.std.specs.Prelude.{◌≡◌, ◌≤◌, ◌<◌, ◌*◌, ◌^
 ghost use Rattle.serde_json.specs.View.{view};
 ghost use Rattle.bt_writing.specs.Actions.{repeated, removal_at, with_removal, before_entry, closing_in, sign, with_brace, with_quote, spelling, solid_end, closing, between, separator, before_item, value_end, missing_by, missing_in, fix_of, title_of, fix_at, with_fix, array_if_any, actions_in, actions_at, actions};
 
-use crate::completing::begins_item;
 use crate::finding::place_in;
 use crate::item_ends::{begins_field, has_line_end, last_word};
 use crate::quick_fix::{action, edit_at};
 use crate::respelling::with_respellings_around;
+use crate::written::begins_item;
 use bt_bib::{Closing, Content, Item, ItemFault, Piece, PlacedPiece, read_bib};
 use bt_documents::Document;
 use bt_mentions::{Inside, inside_item, part};

@@ -1,7 +1,9 @@
 //! Completes the keys of citations.
 
 ghost use Rattle.std.specs.Prelude.{◌≡◌, ◌<◌, ◌*◌, ◌^◌, ◌++◌, map, length, IfOk, OnOk};
+ghost use Rattle.std.specs.String.{string_bytes};
 ghost use Rattle.serde_json.specs.View.{view};
+ghost use Rattle.bt_shapes.specs.Text.{as_utf8};
 ghost use Rattle.bt_writing.specs.Citing.{after_sign, candidate, candidate_of, candidates_of, candidates_from, candidates_in, cites, citation_at};
 
 use crate::written::Written;
@@ -26,7 +28,7 @@ fn append_after(bytes: &mut Bytes, sign: &[u8], text: &[u8]) -> Result<(), Alloc
     bytes.append_all(&[sign, text])
 }
 
-/// A text, and two others after signs, unless these are empty.
+/// A text, then two others, each after its sign unless it is empty; as UTF-8.
 fn joined(
     alloc: Global,
     text: &[u8],
@@ -34,13 +36,14 @@ fn joined(
     author: &[u8],
     second: &[u8],
     title: &[u8],
-) -> Result<Bytes, AllocError>
-    ensures { IfOk result (λ bytes. bytes ≡ after_sign second.now title.now (after_sign first.now author.now text.now)) }
+) -> Result<String, AllocError>
+    ensures { IfOk result (λ words. string_bytes words ≡ as_utf8 (after_sign second.now title.now
+        (after_sign first.now author.now text.now))) }
 {
     let mut bytes = Bytes::copied(alloc, text)?;
     append_after(&mut bytes, first, author)?;
     append_after(&mut bytes, second, title)?;
-    Ok(bytes)
+    shown(alloc, bytes.as_slice())
 }
 
 fn candidate(
@@ -55,11 +58,9 @@ fn candidate(
 {
     let detail = joined(alloc, kind, b": ", author, b". ", title)?;
     let filter = joined(alloc, key, b" ", author, b" ", title)?;
+    let label = shown(alloc, key)?;
     let edit = written.edit(alloc, key)?;
-    let key = shown(alloc, key)?;
-    let detail = shown(alloc, detail.as_slice())?;
-    let filter = shown(alloc, filter.as_slice())?;
-    json!(in alloc; {"label": key, "kind": 18, "detail": detail, "filterText": filter, "textEdit": edit})
+    json!(in alloc; {"label": label, "kind": 18, "detail": detail, "filterText": filter, "textEdit": edit})
 }
 
 fn add_candidate(

@@ -2,20 +2,19 @@
 
 ghost use Rattle.std.specs.Prelude.{◌≡◌, ◌≤◌, ◌<◌, ◌*◌, ◌^◌, ◌++◌, ◌∷◌, [], map, length, option_map, IfOk};
 ghost use Rattle.std.specs.List.{list_any};
-ghost use Rattle.bt_mentions.specs.Databases.{is_opening};
 ghost use Rattle.serde_json.specs.View.{view};
 ghost use Rattle.bt_writing.specs.StyleMacros.{macro_candidate};
-ghost use Rattle.bt_writing.specs.Completing.{begins_item, has_comma, is_head, offer_inside, offer_at, start_or, present_in, macro_candidates, offers, offers_around, database_at, completion_at};
+ghost use Rattle.bt_writing.specs.Completing.{has_comma, offer_inside, offer_at, start_or, present_in, macro_candidates, offers, offers_around, database_at, completion_at};
 
 use crate::citing::{candidates, citation_at};
-use crate::fields::field_candidates;
+use crate::fields::{Fields, field_candidates};
 use crate::style_macros::with_style_macros;
 use crate::types::type_candidates;
-use crate::written::{Written, written_len};
+use crate::written::{Written, is_head, written_len};
 use bt_answers::is_definition;
 use bt_bib::{Field, PlacedPiece, read_bib};
 use bt_documents::Document;
-use bt_mentions::{Inside, Mention, inside_item, is_opening, part};
+use bt_mentions::{Inside, Mention, inside_item, part};
 use bt_places::{
     Paper, Pick, SHOWN_BYTES, Visit, fields_of, is_database, item_around, shown, with_files,
     with_picked, with_value,
@@ -40,33 +39,10 @@ struct MacroNames {
     written: Written,
 }
 
-pub fn has_opening(text: &[u8]) -> bool
-    ensures { result ≡ list_any is_opening text.now }
-{
-    text.iter().any(|byte| is_opening(*byte))
-}
-
-/// Whether a text begins with an `@`.
-pub fn begins_item(front: &[u8]) -> bool
-    ensures { result ≡ begins_item front.now }
-{
-    match front {
-        [first, ..] => *first == b'@',
-        [] => false,
-    }
-}
-
 fn has_comma(text: &[u8]) -> bool
     ensures { result ≡ has_comma text.now }
 {
     text.iter().any(|byte| *byte == b',')
-}
-
-/// Whether an item's first bytes are an `@` and a part of its type.
-fn is_head(front: &[u8]) -> bool
-    ensures { result ≡ is_head front.now }
-{
-    begins_item(front) && !has_opening(front)
 }
 
 /// What is offered where an item's first bytes end, after its type. Fields come after the comma that ends the key.
@@ -201,10 +177,13 @@ fn offers<P: Paper>(
 {
     match offer {
         Offer::Nothing => Ok(Value::Null),
-        Offer::Types => Ok(Value::Array(type_candidates(alloc, paper)?)),
+        Offer::Types => Ok(Value::Array(type_candidates(alloc, paper, written)?)),
         Offer::Keys => Ok(Value::Array(candidates(alloc, paper, written)?)),
         Offer::Macros => Ok(Value::Array(macro_candidates(alloc, paper, written)?)),
-        Offer::Fields => Ok(Value::Array(field_candidates(alloc, paper, present)?)),
+        Offer::Fields => {
+            let fields = Fields { present, written };
+            Ok(Value::Array(field_candidates(alloc, paper, fields)?))
+        }
     }
 }
 

@@ -1,32 +1,24 @@
-//! Completes the fields of an entry: those that the paper's style declares, the missing ones first.
+//! Completes the fields of an entry: those that the paper's style reads, the missing ones first.
 
-ghost use Rattle.std.specs.Prelude.{◌≡◌, map, option_map, IfOk};
+ghost use Rattle.std.specs.Prelude.{◌≡◌, map, IfOk};
 ghost use Rattle.std.specs.List.{fold};
 ghost use Rattle.serde_json.specs.View.{view};
-ghost use Rattle.bt_style.specs.Program.{program_of};
-ghost use Rattle.bt_writing.specs.Fields.{program, has_field, ordered_candidate, with_field, field_candidates};
+ghost use Rattle.bt_writing.specs.Fields.{has_field, with_field, with_read, with_fields, field_candidates};
 
+use crate::style_names::StyleText;
+use crate::written::Written;
 use bt_bib::Field;
-use bt_places::{Paper, Visit, is_style, shown, with_files, with_value};
-use bt_style::{Style, StyleRefusal, read_style};
-use bt_text::{Bytes, eq_ignore_ascii_case};
-use serde_json::{Value, json};
+use bt_places::{Paper, Visit, is_style, with_files, with_value};
+use bt_style_text::{Mark, marks_of};
+use bt_text::eq_ignore_ascii_case;
+use serde_json::Value;
 use std::alloc::{AllocError, Global};
 
+/// The fields that an entry has, and the part that a completion replaces.
 #[derive(Clone, Copy)]
-struct Offered<'a> {
-    present: &'a [Field],
-}
-
-/// The style that a text spells, if it has no fault.
-pub fn program(alloc: Global, text: &[u8]) -> Result<Option<Style>, AllocError>
-    ensures { IfOk result (λ style. option_map program_of style ≡ program text.now) }
-{
-    match read_style(alloc, text) {
-        Ok(style) => Ok(Some(style)),
-        Err(StyleRefusal::Fault { .. }) => Ok(None),
-        Err(StyleRefusal::OutOfMemory) => Err(AllocError),
-    }
+pub struct Fields<'a> {
+    pub present: &'a [Field],
+    pub written: Written,
 }
 
 fn has_field(present: &[Field], name: &[u8]) -> bool
@@ -37,53 +29,78 @@ fn has_field(present: &[Field], name: &[u8]) -> bool
         .any(|field| eq_ignore_ascii_case(field.name.as_slice(), name))
 }
 
-/// What a completion offers for a name, with the protocol's number for its kind. Editors sort by the digit before the name.
-pub fn ordered_candidate(
-    alloc: Global,
-    kind: u8,
-    name: &[u8],
-    is_late: bool,
-) -> Result<Value, AllocError>
-    ensures { IfOk result (λ v. view v ≡ ordered_candidate kind name.now is_late) }
-{
-    let digit = if is_late { "1" } else { "0" };
-    let name = shown(alloc, name)?;
-    let order = format!(in alloc; "{digit}{name}")?;
-    json!(in alloc; {"label": name, "kind": kind, "sortText": order})
-}
-
-fn with_field(
-    alloc: Global,
-    present: &[Field],
-    list: Vec<Value>,
-    name: &Bytes,
-) -> Result<Vec<Value>, AllocError>
-    ensures { IfOk result (λ all. map view all.items ≡ with_field present.now (map view list.items) name.now) }
-{
-    let is_present = has_field(present, name.as_slice());
-    let candidate = ordered_candidate(alloc, 5, name.as_slice(), is_present)?;
-    with_value(list, candidate)
-}
-
-fn with_names(
-    alloc: Global,
-    present: &[Field],
-    list: Vec<Value>,
-    names: &[Bytes],
-) -> Result<Vec<Value>, AllocError>
-    ensures { IfOk result (λ all. map view all.items ≡ fold (with_field present.now) (map view list.items) names.now) }
-{
-    let mut all = list;
-    'names: for name in names {
-        all = with_field(alloc, present, all, name)?;
+impl Fields<'_> {
+    fn with_field(
+        &self,
+        alloc: Global,
+        list: Vec<Value>,
+        name: &[u8],
+    ) -> Result<Vec<Value>, AllocError>
+        ensures { IfOk result (λ all. map view all.items ≡
+            with_field self.now.present.now self.now.written (map view list.items) name.now) }
+    {
+        let is_present = has_field(self.present, name);
+        let candidate = self.written.ordered_item(alloc, 5, name, is_present)?;
+        with_value(list, candidate)
     }
-    Ok(all)
+
+    fn with_read(
+        &self,
+        alloc: Global,
+        style: StyleText,
+        list: Vec<Value>,
+        mark: Mark,
+    ) -> Result<Vec<Value>, AllocError>
+        ensures { IfOk result (λ all. map view all.items ≡ with_read self.now.present.now self.now.written
+            style.entry.text.now style.entry.marks.now (map view list.items) mark) }
+    {
+        if style.is_read(mark) {
+            self.with_field(alloc, list, style.name(mark))
+        } else {
+            Ok(list)
+        }
+    }
+
+    fn with_each(
+        &self,
+        alloc: Global,
+        style: StyleText,
+        list: Vec<Value>,
+    ) -> Result<Vec<Value>, AllocError>
+        ensures { IfOk result (λ all. map view all.items ≡ fold (with_read self.now.present.now self.now.written
+            style.entry.text.now style.entry.marks.now) (map view list.items) style.entry.marks.now) }
+    {
+        let mut all = list;
+        'marks: for mark in style.marks {
+            all = self.with_read(alloc, style, all, *mark)?;
+        }
+        Ok(all)
+    }
+
+    fn with_fields(
+        &self,
+        alloc: Global,
+        text: &[u8],
+        list: Vec<Value>,
+    ) -> Result<Vec<Value>, AllocError>
+        ensures { IfOk result (λ all. map view all.items ≡
+            with_fields self.now.present.now self.now.written (map view list.items) text.now) }
+    {
+        let marks = marks_of(alloc, text)?;
+        let style = StyleText {
+            text,
+            marks: marks.as_slice(),
+        };
+        let first = self.with_field(alloc, list, b"crossref")?;
+        let all = self.with_each(alloc, style, first)?;
+        Ok(all)
+    }
 }
 
-impl Visit for Offered<'_> {
+impl Visit for Fields<'_> {
     ghost use Rattle.bt_writing.specs.Fields.{with_style};
 
-    ghost added = { λ o list uri text. with_style o.present.now list uri text };
+    ghost added = { λ f list uri text. with_style f.present.now f.written list uri text };
 
     fn visit(
         &self,
@@ -92,12 +109,10 @@ impl Visit for Offered<'_> {
         uri: &[u8],
         text: &[u8],
     ) -> Result<Vec<Value>, AllocError> {
-        if !is_style(uri) {
-            return Ok(list);
-        }
-        match program(alloc, text)? {
-            Some(style) => with_names(alloc, self.present, list, style.fields.as_slice()),
-            None => Ok(list),
+        if is_style(uri) {
+            self.with_fields(alloc, text, list)
+        } else {
+            Ok(list)
         }
     }
 }
@@ -106,10 +121,10 @@ impl Visit for Offered<'_> {
 pub fn field_candidates<P: Paper>(
     alloc: Global,
     paper: &P,
-    present: &[Field],
+    fields: Fields,
 ) -> Result<Vec<Value>, AllocError>
-    ensures { IfOk result (λ list. map view list.items ≡ field_candidates (P.shown paper.now).files present.now) }
+    ensures { IfOk result (λ list. map view list.items ≡
+        field_candidates (P.shown paper.now).files fields.entry.present.now fields.entry.written) }
 {
-    let offered = Offered { present };
-    with_files(alloc, paper, &offered, Vec::new(alloc))
+    with_files(alloc, paper, &fields, Vec::new(alloc))
 }

@@ -5,7 +5,7 @@ ghost use Rattle.serde_json.specs.View.{view};
 ghost use Rattle.bt_places.specs.Editor.{counting_in};
 ghost use Rattle.bt_writing.specs.Finding.{place_in, location_in, found_in, found_at, type_of, type_at, type_places, typed_or_found, definition_at};
 
-use crate::completing::has_opening;
+use crate::written::has_opening;
 use bt_answers::{Loan, macro_at};
 use bt_bib::{PlacedPiece, read_bib};
 use bt_documents::Document;
@@ -104,7 +104,6 @@ fn type_of<'a>(around: Option<&'a PlacedPiece>, text: &[u8], place: usize) -> &'
     }
 }
 
-/// The entry's type at a position of a document; empty if it is no database, or if no type is there.
 fn type_at(alloc: Global, document: &Document, at: Position) -> Result<Bytes, AllocError>
     ensures { IfOk result (λ kind. kind ≡ type_at document.now at) }
 {

@@ -9,12 +9,14 @@ mod finding;
 mod item_ends;
 mod quick_fix;
 mod respelling;
+mod spellings;
+mod style_actions;
 mod style_macros;
-mod trials;
+mod style_names;
 mod types;
 mod written;
 
 pub use actions::actions_for;
 pub use completing::completion_at;
 pub use finding::definition_at;
-pub use trials::trials_for;
+pub use style_actions::actions_in_style;

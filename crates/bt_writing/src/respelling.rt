@@ -4,12 +4,12 @@
 ghost use Rattle.std.specs.Prelude.{◌≡◌, ◌<◌, ◌*◌, ◌^◌, length, map, option_map, IfOk};
 ghost use Rattle.std.specs.List.{fold};
 ghost use Rattle.serde_json.specs.View.{view};
-ghost use Rattle.bt_writing.specs.Respelling.{spelled_in, respelled, respelling_at, with_own, is_parent, with_respelling, with_respellings, with_respellings_around};
+ghost use Rattle.bt_writing.specs.Respelling.{spelled_in, respelled, respelling_at, with_own, with_respelling, with_respellings, with_respellings_around};
 
 use crate::quick_fix::{action, edit_at};
 use bt_bib::PlacedPiece;
 use bt_documents::Document;
-use bt_mentions::{Mention, Role, part, with_piece};
+use bt_mentions::{Mention, is_parent, part, with_piece};
 use bt_places::{key_of, with_value};
 use bt_text::{Sequence, eq_ignore_ascii_case};
 use serde_json::Value;
@@ -68,16 +68,6 @@ fn with_own(
             Ok(all)
         }
         None => Ok(list),
-    }
-}
-
-/// Whether a key is mentioned as a parent's.
-fn is_parent(role: Role) -> bool
-    ensures { result ≡ is_parent role }
-{
-    match role {
-        Role::Crossref => true,
-        Role::Key | Role::Citation | Role::Definition | Role::Macro => false,
     }
 }
 

@@ -3,13 +3,13 @@
 ghost use Rattle.std.specs.Prelude.{◌≡◌, map, IfOk};
 ghost use Rattle.std.specs.List.{fold};
 ghost use Rattle.serde_json.specs.View.{view};
-ghost use Rattle.bt_writing.specs.StyleMacros.{with_style_macro, with_style_macros};
+ghost use Rattle.bt_writing.specs.StyleMacros.{with_style_macro, with_macros_in, with_style_macros};
 
 use crate::completing::with_name;
-use crate::fields::program;
+use crate::style_names::is_macro;
 use crate::written::Written;
 use bt_places::{Paper, Visit, is_style, with_files};
-use bt_style::Macro;
+use bt_style_text::{Mark, marks_of, part};
 use serde_json::Value;
 use std::alloc::{AllocError, Global};
 
@@ -19,30 +19,53 @@ struct StyleNames {
     written: Written,
 }
 
-fn with_style_macro(
-    alloc: Global,
-    written: Written,
-    list: Vec<Value>,
-    one: &Macro,
-) -> Result<Vec<Value>, AllocError>
-    ensures { IfOk result (λ all. map view all.items ≡ with_style_macro written (map view list.items) one.now) }
-{
-    with_name(alloc, written, one.name.as_slice(), list)
-}
-
-fn with_macros(
-    alloc: Global,
-    written: Written,
-    list: Vec<Value>,
-    macros: &[Macro],
-) -> Result<Vec<Value>, AllocError>
-    ensures { IfOk result (λ all. map view all.items ≡ fold (with_style_macro written) (map view list.items) macros.now) }
-{
-    let mut all = list;
-    'macros: for one in macros {
-        all = with_style_macro(alloc, written, all, one)?;
+impl StyleNames {
+    fn with_style_macro(
+        &self,
+        alloc: Global,
+        text: &[u8],
+        list: Vec<Value>,
+        one: Mark,
+    ) -> Result<Vec<Value>, AllocError>
+        ensures { IfOk result (λ all. map view all.items ≡
+            with_style_macro self.now.written text.now (map view list.items) one) }
+    {
+        if is_macro(one.role) {
+            with_name(alloc, self.written, part(text, one.start, one.end), list)
+        } else {
+            Ok(list)
+        }
     }
-    Ok(all)
+
+    fn with_macros(
+        &self,
+        alloc: Global,
+        text: &[u8],
+        list: Vec<Value>,
+        marks: &[Mark],
+    ) -> Result<Vec<Value>, AllocError>
+        ensures { IfOk result (λ all. map view all.items ≡
+            fold (with_style_macro self.now.written text.now) (map view list.items) marks.now) }
+    {
+        let mut all = list;
+        'marks: for one in marks {
+            all = self.with_style_macro(alloc, text, all, *one)?;
+        }
+        Ok(all)
+    }
+
+    fn with_macros_in(
+        &self,
+        alloc: Global,
+        text: &[u8],
+        list: Vec<Value>,
+    ) -> Result<Vec<Value>, AllocError>
+        ensures { IfOk result (λ all. map view all.items ≡ with_macros_in self.now.written (map view list.items) text.now) }
+    {
+        let marks = marks_of(alloc, text)?;
+        let all = self.with_macros(alloc, text, list, marks.as_slice())?;
+        Ok(all)
+    }
 }
 
 impl Visit for StyleNames {
@@ -57,12 +80,10 @@ impl Visit for StyleNames {
         uri: &[u8],
         text: &[u8],
     ) -> Result<Vec<Value>, AllocError> {
-        if !is_style(uri) {
-            return Ok(list);
-        }
-        match program(alloc, text)? {
-            Some(style) => with_macros(alloc, self.written, list, style.macros.as_slice()),
-            None => Ok(list),
+        if is_style(uri) {
+            self.with_macros_in(alloc, text, list)
+        } else {
+            Ok(list)
         }
     }
 }

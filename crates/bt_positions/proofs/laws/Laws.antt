@@ -2,7 +2,8 @@
 use Rattle.std.proofs.Common.{arith}
 use Rattle.std.proofs.lemmas.Grind.{common_steps}
 use Rattle.bt_positions.specs.laws.Laws.{WidthsAddUp, OffsetsComeBack}
-use Rattle.bt_positions.proofs.laws.PlaceLemmas.{width_append, comes_back, start_within}
+use Rattle.bt_positions.proofs.WidthLemmas.{width_append}
+use Rattle.bt_positions.proofs.laws.PlaceLemmas.{comes_back, start_within}
 
 pub widths_add_up : WidthsAddUp
 widths_add_up = record { joined = width_append }

@@ -1,18 +1,12 @@
 -- From an offset to its position and back.
-use Rattle.std.proofs.Common.{◌≡◌, ℕ, zero, suc, ◌+◌, ◌-◌, ◌≤◌, true, false, List, [], ◌∷◌, ◌++◌, take, drop, refl, sym, ap, ◌∙◌, arith}
+use Rattle.std.proofs.Common.{◌≡◌, ℕ, zero, suc, ◌+◌, ◌-◌, ◌≤◌, true, false, List, [], ◌∷◌, take, drop, refl, sym, ap, ◌∙◌, arith}
 use Rattle.std.proofs.lemmas.Grind.{common_steps}
-use native.Mathlib.Numerals.{unary_clauses}
 use Rattle.std.specs.Prelude.{◌&&◌, ◌==◌, not, Bool, cond}
 use Rattle.bt_positions.specs.declared.counting.Counting.{Counting}
 use Rattle.bt_positions.specs.Units.{width, fitting}
 use Rattle.bt_positions.specs.declared.lines.Lines.TheVariants.{Editor}
 use Rattle.bt_positions.specs.Lines.{begins_with_feed, place_of_line, line_ends, first_line}
 use Rattle.bt_positions.specs.laws.Places.{is_place}
-
--- Two texts one after the other count what each counts.
-pub width_append : (c : Counting) (s t : List ℕ) → width c (s ++ t) ≡ width c s + width c t
-width_append c [] t = grind arith
-width_append c (b ∷ s) t = grind (arith, width_append c s t)
 
 -- Within the first line.
 pub fits_back : (c : Counting) (n : ℕ) (t : List ℕ) → is_place c n t ≡ true → line_ends n t ≡ 0 →

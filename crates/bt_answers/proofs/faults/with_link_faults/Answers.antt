@@ -6,7 +6,7 @@ use Rattle.bt_places.proofs.MoreLemmas.{fold_next}
 use Rattle.bt_answers.proofs.faults.with_link_faults.Goals as goal
 
 pub found-preserved : goal.found-preserved
-found-preserved c =
+found-preserved g c =
     let none : Link = record { from = 0; to = 0; kind = Database } in
-    fold_next (with_faults_at c.args.messages.now c.args.document.now) c.args.found.now c.found.link-index none _ _ _ (omega (arith, c.found-test.true))
+    fold_next (with_faults_at (g.P.Paper.shown c.args.paper.now) c.args.document.now) c.args.found.now c.found.link-index none _ _ _ (omega (arith, c.found-test.true))
     c.in_ok-all.ensures c.found.invariant

@@ -6,5 +6,5 @@ use Rattle.bt_answers.proofs.faults.with_named_faults.Given as goal
 
 abbrev pub invariant-messages : goal.invariant-messages
 invariant-messages l =
-    let add = with_fault l.document l.link l.name in
+    let add = with_fault l.count l.named.document.now l.named.link l.named.name.now in
     fold add (map view l.all.items) (drop l.message-index l.messages) ≡ fold add (map view l.fn.list.items) l.messages

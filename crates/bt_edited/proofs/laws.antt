@@ -1,0 +1,4 @@
+-- Only laws need these.
+pub mod BecomesLemmas
+pub mod ConverseLemmas
+pub mod Laws

@@ -1,0 +1,4 @@
+pub mod Edits
+pub mod Changes
+pub mod Becomes
+pub mod laws

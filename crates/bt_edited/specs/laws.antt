@@ -1,0 +1,2 @@
+-- Only laws need these.
+pub mod Laws

@@ -1,0 +1,2 @@
+-- Worked examples, proved by `refl`. Nothing depends on them.
+mod MentionRows
