@@ -12,14 +12,14 @@ use anyhow::Result;
 use bt_lsp::Server;
 use bt_paper::{Options, SessionPaper};
 use bt_places::Paper;
+use bt_programs::VERSION;
+use bt_remarks::Remarks;
 use bt_streams::{LooksAhead, ReaderSource, Sink, Source, WriterSink};
 use bt_talk::talk;
 use std::alloc::AllocError;
 use std::io::{BufReader, BufWriter, ErrorKind};
 use std::process::ExitCode;
 use std::{env, io, mem};
-
-const VERSION: &str = "0.9.0";
 
 const HELP: &str = "\
 usage: bibtex-lsp [--job=NAME] [--search=FOLDER]..
@@ -36,7 +36,7 @@ standard input and output.
 Exit status: 0 after shutdown and exit, otherwise 1.";
 
 /// Answers messages about a paper. It is generic, so that its proof doesn't follow a session's parts.
-fn answer<S: Source + LooksAhead, K: Sink, P: Paper + Drop>(
+fn answer<S: Source + LooksAhead, K: Sink, P: Paper + Remarks + Drop>(
     rt: &HostRuntime,
     source: &mut S,
     sink: &mut K,

@@ -34,13 +34,13 @@ pub carried : {P : Type 0} (text : P → List ℕ → Option (List ℕ)) (shown 
     next ≡ record d { documents = next.documents; lost = next.lost; stale = next.stale } →
     AreGiven next.documents mid.documents → (Follows (text next.paper) next.documents → Follows (text mid.paper) mid.documents) →
     (IsTrue mid.stale → IsTrue next.stale) → (IsTrue mid.stale → IsTrue behind) → (IsTrue behind → IsTrue mid.stale ⊎ IsTrue (any_behind mid.documents)) → mid ≡ record next { paper = mid.paper; documents = mid.documents; stale = mid.stale } →
-    Tells shown mid.lost mid.in_progress mid.said behind notice m told e →
-    e ≡ record mid { lost = e.lost; in_progress = e.in_progress; said = e.said; pending = e.pending; checked = e.checked } → Carried text shown d notice m told e
+    Tells shown mid behind notice m told e →
+    e ≡ record mid { lost = e.lost; in_progress = e.in_progress; said = e.said; pending = e.pending; checked = e.checked; step_words = e.step_words } → Carried text shown d notice m told e
 carried {P} text shown d next mid e notice m told behind taken first took given second due unread lags caught says told_it =
     let stale : e.stale ≡ mid.stale = ap (λ (s : Server P). s.stale) told_it in
     let docs : e.documents ≡ mid.documents = ap (λ (s : Server P). s.documents) told_it in
     let paper : next.paper ≡ d.paper = ap (λ (s : Server P). s.paper) took in
-    let kept : Server P → Server P = λ s. record s { paper = e.paper; documents = e.documents; lost = e.lost; stale = e.stale; in_progress = e.in_progress; said = e.said; pending = e.pending; checked = e.checked } in
+    let kept : Server P → Server P = λ s. record s { paper = e.paper; documents = e.documents; lost = e.lost; stale = e.stale; in_progress = e.in_progress; said = e.said; pending = e.pending; checked = e.checked; step_words = e.step_words } in
     record {
       next = next;
       taken = taken;
@@ -49,7 +49,7 @@ carried {P} text shown d next mid e notice m told behind taken first took given 
       due = λ t. due (sym stale ∙ t);
       unread = λ t. unread (sym stale ∙ t);
       lags = λ t. subst (λ (s : Server P). IsTrue s.stale ⊎ IsTrue (any_behind s.documents)) (sym told_it) (lags t);
-      says = subst (λ (s : Server P). Tells shown s.lost s.in_progress s.said behind notice m told e) caught says;
+      says = subst (λ (s : Server P). Tells shown s behind notice m told e) caught says;
       follows = λ f. subst (λ (s : Server P). Follows (text s.paper) s.documents) (sym told_it) (second (subst (λ p. Follows (text p) next.documents) (sym paper) (first f)));
       is = ap kept told_it ∙ ap kept caught ∙ ap kept took;
     }
@@ -81,7 +81,7 @@ deferred {P} text shown d next e m told taken first took none told_it =
     let stale : e.stale ≡ next.stale = ap (λ (s : Server P). s.stale) told_it in
     let docs : e.documents ≡ next.documents = ap (λ (s : Server P). s.documents) told_it in
     let paper : next.paper ≡ d.paper = ap (λ (s : Server P). s.paper) took in
-    let kept : Server P → Server P = λ s. record s { paper = e.paper; documents = e.documents; lost = e.lost; stale = e.stale; in_progress = e.in_progress; said = e.said; pending = e.pending; checked = e.checked } in
+    let kept : Server P → Server P = λ s. record s { paper = e.paper; documents = e.documents; lost = e.lost; stale = e.stale; in_progress = e.in_progress; said = e.said; pending = e.pending; checked = e.checked; step_words = e.step_words } in
     record {
       next = next;
       taken = taken;

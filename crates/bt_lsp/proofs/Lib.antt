@@ -1,3 +1,4 @@
+pub mod PlacingPlain
 pub mod StylePlain
 pub mod PlainLemmas
 pub mod TakenLemmas

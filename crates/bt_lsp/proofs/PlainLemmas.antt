@@ -8,7 +8,7 @@ use Rattle.serde_json.specs.declared.value.Value.{Value}
 use Rattle.bt_positions.specs.declared.counting.Counting.{Counting}
 use Rattle.bt_positions.specs.declared.indexed_text.Position.{Position}
 use Rattle.bt_rpc.specs.declared.answers.RpcError.{RpcError}
-use Rattle.bt_talk.specs.Handled.{IsNote}
+use Rattle.bt_talk.specs.Handled.{HasNoFloat, IsNote}
 use Rattle.bt_talk.specs.Replies.{outcome_of, IsPlain}
 use Rattle.bt_documents.specs.declared.document.Document.{Document}
 use Rattle.bt_lsp.specs.declared.methods.Notice.{Notice}
@@ -25,7 +25,7 @@ use Rattle.bt_lsp.specs.declared.methods.RunQuery.{RunQuery}
 use Rattle.bt_lsp.specs.declared.methods.RunQuery.TheVariants.{Lenses}
 use Rattle.bt_lsp.specs.declared.methods.RunQuery.TheVariants as queries
 use Rattle.bt_lsp.specs.declared.found.Found.{Found}
-use Rattle.bt_lenses.specs.declared.origin.Origin.{Origin}
+use Rattle.bt_remarks.specs.declared.lens.Origin.{Origin}
 use Rattle.bt_answers.specs.Lensing.{lens_value}
 use Rattle.bt_lsp.specs.declared.server.Phase.{Phase}
 use Rattle.bt_lsp.specs.declared.server.Phase.TheVariants.{New, Ready, ShutDown}
@@ -41,7 +41,7 @@ use Rattle.bt_answers.specs.Hints.{with_hints}
 use Rattle.bt_answers.specs.Related.{diagnostics_in}
 use Rattle.bt_answers.specs.Faults.{is_some_text, with_faults}
 use Rattle.bt_lsp.specs.Complaints.{complaints, complaint, with_complaints}
-use Rattle.bt_lsp.specs.News.{news, all_published, shown_of, lost_words, behind_words, warned, warnings, cleared, cleared_at}
+use Rattle.bt_lsp.specs.News.{news, all_published, run_name, shown_of, is_run_style, fault_for, style_values, values_of, lost_words, behind_words, warned, warnings, cleared, cleared_at}
 use Rattle.bt_places.specs.Parameters.{wants_declarations, document_of, place_of, text_at, position_at}
 use Rattle.bt_places.specs.Entries.{is_style}
 use Rattle.bt_places.specs.Hover.{key_at, trimmed_start}
@@ -49,29 +49,40 @@ use Rattle.bt_places.specs.Mentioning.{mention_at}
 use Rattle.bt_answers.specs.References.{macro_at}
 use Rattle.bt_answers.specs.Renaming.{mention_range}
 use Rattle.bt_shapes.proofs.PlainLists.{all_mapped}
-use Rattle.bt_places.proofs.PlainLists.{IsPlainData, items_plain, all_both, either_outcome}
+use Rattle.bt_places.proofs.PlainLists.{IsPlainData, items_plain, all_both, either_plain, either_outcome}
 use Rattle.bt_answers.proofs.FeaturePlain.{macro_plain, references_plain, renamed_plain, range_plain, folds_plain, found_symbols_plain, links_plain, formatted_plain, hints_plain, faults_plain}
 use Rattle.bt_writing.proofs.FeaturePlain.{actions_plain}
 use Rattle.bt_places.proofs.CompletingPlain.{one_plain}
 use Rattle.bt_writing.proofs.CompletingPlain.{completion_plain}
 use Rattle.bt_lsp.specs.Answering.{text_answer_at, answer_at, text_answer_of, answer_of, paper_answer, run_answer, at_place, at_document, answered}
 use Rattle.bt_lsp.specs.Styles.{style_answer_at, style_answer_of, with_style_hints}
+use Rattle.bt_lsp.proofs.PlacingPlain.{messages_plain}
 use Rattle.bt_lsp.proofs.StylePlain.{style_at_plain, style_of_plain, style_hints_plain}
-use Rattle.bt_style_findings.specs.declared.checked.Checked.{Checked}
+use Rattle.bt_remarks.specs.declared.checked.Checked.{Checked}
+use Rattle.bt_remarks.specs.declared.step_word.StepWord.{StepWord}
+use Rattle.bt_answers.specs.Keys.{role_of, key_spans}
+use Rattle.bt_lsp.specs.Placing.{found_in}
+use Rattle.bt_style_text.specs.declared.words.Word.{Word}
 use Rattle.bt_lsp.specs.Desk.{queried, IsOutcome, IsFoundOutcome, Tells, Carried}
 use Rattle.bt_places.proofs.PlainLemmas.{published_note, one_note, no_note, hover_lines_plain, plain_from}
-use Rattle.bt_answers.proofs.PlainLemmas.{diagnostics_in_plain, symbols_plain, origin_plain}
+use Rattle.bt_answers.proofs.PlainLemmas.{hovered_plain, diagnostics_in_plain, symbols_plain, origin_plain}
 use Rattle.bt_writing.proofs.PlainLemmas.{definition_plain}
 
-published_notes : (relates : Bool) (shown : Shown) (checked : List Checked) (docs : List Document) → AllByRecursion IsNote (all_published relates shown checked docs)
-published_notes relates shown checked [] = tt
-published_notes relates shown checked (d ∷ ds) =
-    let found = diagnostics_in relates d (shown_of shown d) in
-    let faulty = with_faults shown.messages d found in
+values_plain : (relates : Bool) (fault : Option Word) (words : List (Option StepWord)) (shown : Shown) (d : Document) → AllByRecursion HasNoFloat (values_of relates fault words shown d)
+values_plain relates fault words shown d =
+    either_plain (is_run_style d) (style_values relates fault words shown d) (diagnostics_in relates d (shown_of shown d))
+    (messages_plain relates d fault (found_in (run_name shown d) d (role_of d.name) (key_spans shown d)) words [] shown.messages tt) (diagnostics_in_plain relates d (shown_of shown d))
+
+published_notes : (relates : Bool) (words : List (Option StepWord)) (shown : Shown) (checked : List Checked) (docs : List Document) → AllByRecursion IsNote (all_published relates words shown checked docs)
+published_notes relates words shown checked [] = tt
+published_notes relates words shown checked (d ∷ ds) =
+    let fault = fault_for shown d in
+    let found = values_of relates fault words shown d in
+    let faulty = with_faults shown d found in
     let hinted = with_hints shown.files d faulty in (
-      published_note d.name (with_style_hints checked d hinted)
-          (style_hints_plain checked d hinted (hints_plain shown.files d faulty (faults_plain shown.messages d found (diagnostics_in_plain relates d (shown_of shown d))))),
-      published_notes relates shown checked ds,
+      published_note d.name (with_style_hints checked fault d hinted)
+          (style_hints_plain checked fault d hinted (hints_plain shown.files d faulty (faults_plain shown d found (values_plain relates fault words shown d)))),
+      published_notes relates words shown checked ds,
     )
 
 warned_notes : (words : List ℕ) (is_due : Bool) → AllByRecursion IsNote (warned words is_due)
@@ -102,31 +113,31 @@ announced_notes a shown list p =
 complaints_notes : (said words : List ℕ) (list : List Data) → AllByRecursion IsNote list → AllByRecursion IsNote (with_complaints said words list)
 complaints_notes said words list p = no_note (not (is_some_text words) || bytes_eq words said) (complaint words) list (refl, refl) p
 
-told_notes : (a : Announced) (relates : Bool) (shown : Shown) (checked : List Checked) (said words : List ℕ) (lost behind : Bool) (notice : Notice) (m : Data) (docs : List Document) →
-    AllByRecursion IsNote (news a relates shown checked docs (with_complaints said words (warnings lost behind ++ cleared notice m)))
-told_notes a relates shown checked said words lost behind notice m docs =
+told_notes : (a : Announced) (relates : Bool) (step_words : List (Option StepWord)) (shown : Shown) (checked : List Checked) (said words : List ℕ) (lost behind : Bool) (notice : Notice) (m : Data) (docs : List Document) →
+    AllByRecursion IsNote (news a relates step_words shown checked docs (with_complaints said words (warnings lost behind ++ cleared notice m)))
+told_notes a relates step_words shown checked said words lost behind notice m docs =
     let first = warnings lost behind ++ cleared notice m in
-    announced_notes a shown (with_complaints said words first ++ all_published relates shown checked docs)
+    announced_notes a shown (with_complaints said words first ++ all_published relates step_words shown checked docs)
     (all_both IsNote (with_complaints said words first) _
     (complaints_notes said words first
-    (all_both IsNote (warnings lost behind) _ (warnings_notes lost behind) (cleared_notes notice m))) (published_notes relates shown checked docs))
+    (all_both IsNote (warnings lost behind) _ (warnings_notes lost behind) (cleared_notes notice m))) (published_notes relates step_words shown checked docs))
 
-tells_notes : {P : Type 0} (shown : P → Shown) (lost running : Bool) (said : List ℕ) (behind : Bool) (notice : Notice) (m : Data) (told : List Data) (e : Server P) →
-    Tells shown lost running said behind notice m told e → AllByRecursion IsNote told
-tells_notes shown lost running said behind notice m told e (inl h) =
+tells_notes : {P : Type 0} (shown : P → Shown) (d : Server P) (behind : Bool) (notice : Notice) (m : Data) (told : List Data) (e : Server P) →
+    Tells shown d behind notice m told e → AllByRecursion IsNote told
+tells_notes shown d behind notice m told e (inl h) =
     let words = complaints (shown e.paper) e.documents in
     subst (AllByRecursion IsNote) (sym h.0)
-    (one_note running (progress ending) (news e.announced e.shows_related (shown e.paper) e.checked e.documents (with_complaints said words (warnings lost behind ++ cleared notice m))) (refl, refl)
-    (told_notes e.announced e.shows_related (shown e.paper) e.checked said words lost behind notice m e.documents))
-tells_notes shown lost running said behind notice m told e (inr h) = subst (AllByRecursion IsNote) (sym h.0) tt
+    (one_note d.in_progress (progress ending) (news e.announced e.shows_related e.step_words (shown e.paper) e.checked e.documents (with_complaints d.said words (warnings d.lost behind ++ cleared notice m))) (refl, refl)
+    (told_notes e.announced e.shows_related e.step_words (shown e.paper) e.checked d.said words d.lost behind notice m e.documents))
+tells_notes shown d behind notice m told e (inr h) = subst (AllByRecursion IsNote) (sym h.0) tt
 
 -- what is said to a notification that the desk takes
 pub carried_notes : {P : Type 0} (text : P → List ℕ → Option (List ℕ)) (shown : P → Shown) (d : Server P) (notice : Notice) (m : Data) (told : List Data) (e : Server P) →
     Carried text shown d notice m told e → AllByRecursion IsNote told
-carried_notes text shown d notice m told e h = tells_notes shown h.next.lost h.next.in_progress h.next.said h.behind notice m told e h.says
+carried_notes text shown d notice m told e h = tells_notes shown h.next h.behind notice m told e h.says
 
 text_at_plain : (plain : Bool) (c : Counting) (shown : Shown) (docs : List Document) (query : CursorQuery) (d : Document) (at : Position) (m : Data) → IsPlainData (text_answer_at plain c shown docs query d at m)
-text_at_plain plain c shown docs Hover d at m = hover_lines_plain plain (trimmed_start (shown.entry_text (key_at d at)))
+text_at_plain plain c shown docs Hover d at m = hovered_plain shown plain d at
 text_at_plain plain c shown docs Definition d at m = definition_plain shown.files docs c d at (macro_at shown.files docs c d at) (macro_plain shown.files docs c d (mention_at d at))
 text_at_plain plain c shown docs References d at m = references_plain shown.files docs c d (wants_declarations m) (mention_at d at)
 text_at_plain plain c shown docs Rename d at m = renamed_plain shown.files docs c d (mention_at d at) (text_at (codes "/params/newName") m)

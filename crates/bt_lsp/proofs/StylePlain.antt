@@ -10,13 +10,14 @@ use Rattle.bt_documents.specs.declared.document.Document.{Document}
 use Rattle.bt_talk.specs.Handled.{HasNoFloat}
 use Rattle.bt_shapes.proofs.PlainLists.{all_both}
 use Rattle.bt_style_answers.specs.Hinting.{hints_in}
+use Rattle.bt_style_text.specs.declared.words.Word.{Word}
 use Rattle.bt_style_text.specs.declared.renaming.RenameRefusal.{RenameRefusal}
 use Rattle.bt_style_answers.specs.Renaming.{rename_at, renamed_range_at}
 use Rattle.bt_style_answers.proofs.PlainLemmas.{OutcomeIsPlain, hints_plain, hover_plain, definition_plain, references_plain, rename_plain, renamed_range_plain, completion_plain, symbols_plain, folds_plain}
-use Rattle.bt_style_findings.specs.declared.checked.Checked.{Checked}
-use Rattle.bt_style_findings.specs.Checked.{found_for}
-use Rattle.bt_style_findings.specs.Values.{finding}
-use Rattle.bt_style_findings.proofs.PlainLemmas.{findings_plain}
+use Rattle.bt_remarks.specs.declared.checked.Checked.{Checked}
+use Rattle.bt_remarks.specs.Checked.{found_for}
+use Rattle.bt_remarks.specs.Values.{finding}
+use Rattle.bt_remarks.proofs.PlainLemmas.{findings_plain}
 use Rattle.bt_lsp.specs.declared.methods.CursorQuery.{CursorQuery}
 use Rattle.bt_lsp.specs.declared.methods.CursorQuery.TheVariants.{Hover, Definition, References, Rename, NameRange, Completion}
 use Rattle.bt_lsp.specs.declared.methods.DocumentQuery.{DocumentQuery}
@@ -25,7 +26,7 @@ use Rattle.bt_places.specs.Parameters.{text_at, wants_declarations, position_at}
 use Rattle.bt_lsp.specs.Styles.{outcome_for, style_renamed, said_at, said_of, style_answer_at, style_answer_of, with_style_hints}
 use Rattle.bt_places.specs.Entries.{is_style}
 use Rattle.bt_places.proofs.PlainLists.{IsPlainData, either_outcome, none_or, either_plain}
-use Rattle.bt_writing.proofs.TrialsPlain.{trials_plain}
+use Rattle.bt_writing.proofs.StyleActionsPlain.{actions_plain}
 
 outcome_for_plain : (r : Result Data RenameRefusal) → OutcomeIsPlain r → IsPlainData (outcome_for r)
 outcome_for_plain (Ok d) p = p
@@ -53,7 +54,7 @@ said_of_plain checked docs Outline d m = symbols_plain d.counting d.text
 said_of_plain checked docs Folds d m = folds_plain d.counting d.text
 said_of_plain checked docs Format d m = refl
 said_of_plain checked docs Actions d m =
-    trials_plain checked docs d (position_at (codes "/params/range/start/line") (codes "/params/range/start/character") m)
+    actions_plain checked docs d (position_at (codes "/params/range/start/line") (codes "/params/range/start/character") m)
     (position_at (codes "/params/range/end/line") (codes "/params/range/end/character") m)
 said_of_plain checked docs Links d m = refl
 
@@ -61,10 +62,10 @@ pub style_of_plain : (checked : List Checked) (docs : List Document) (query : Do
 style_of_plain checked docs query d m =
     none_or (nat_lt 1073741824 (length d.text)) (said_of checked docs query d m) (said_of_plain checked docs query d m)
 
-pub style_hints_plain : (checked : List Checked) (d : Document) (list : List Data) → AllByRecursion HasNoFloat list → AllByRecursion HasNoFloat (with_style_hints checked d list)
-style_hints_plain checked d list p =
+pub style_hints_plain : (checked : List Checked) (fault : Option Word) (d : Document) (list : List Data) → AllByRecursion HasNoFloat list → AllByRecursion HasNoFloat (with_style_hints checked fault d list)
+style_hints_plain checked fault d list p =
     let found = found_for d.name d.text checked in
-    let hinted = list ++ hints_in d.counting d.text in
+    let hinted = list ++ hints_in d.counting fault d.text in
     either_plain (not (is_style d.name) || nat_lt 262144 (length d.text)) list (hinted ++ map (finding d.counting d.name d.text) found) p
-    (all_both HasNoFloat hinted _ (all_both HasNoFloat list (hints_in d.counting d.text) p (hints_plain d.counting d.text))
+    (all_both HasNoFloat hinted _ (all_both HasNoFloat list (hints_in d.counting fault d.text) p (hints_plain d.counting fault d.text))
     (findings_plain d.counting d.name d.text found))

@@ -8,7 +8,7 @@ use Rattle.bt_rpc.specs.declared.answers.RpcError.{RpcError}
 use Rattle.bt_rpc.specs.declared.answers.RpcError.TheVariants.{InvalidRequest, InvalidParams, MethodNotFound}
 use Rattle.bt_lsp.specs.declared.methods.Request.{Request}
 use Rattle.bt_lsp.specs.declared.methods.Request.TheVariants.{Initialize, Shutdown, AtCursor, OfDocument, OfPaper, OfRun, Unknown}
-use Rattle.bt_style_findings.specs.declared.checked.Checked.{Checked}
+use Rattle.bt_remarks.specs.declared.checked.Checked.{Checked}
 use Rattle.bt_lsp.specs.declared.methods.CursorQuery.{CursorQuery}
 use Rattle.bt_lsp.specs.declared.methods.CursorQuery.TheVariants.{Hover, Definition, References, Rename, NameRange, Completion}
 use Rattle.bt_lsp.specs.declared.methods.DocumentQuery.{DocumentQuery}
@@ -21,7 +21,7 @@ use Rattle.bt_lsp.specs.declared.found.Found.{Found}
 use Rattle.bt_places.specs.Shown.{Shown}
 use Rattle.bt_places.specs.Parameters.{wants_declarations, place_of, document_of, text_at}
 use Rattle.bt_places.specs.Shapes.{shown_text, shown_status}
-use Rattle.bt_places.specs.Hover.{hover_at}
+use Rattle.bt_answers.specs.Uncited.{hovered_at}
 use Rattle.bt_answers.specs.References.{references_at}
 use Rattle.bt_answers.specs.Renaming.{renamed_at, name_range_at}
 use Rattle.bt_writing.specs.Finding.{definition_at}
@@ -38,7 +38,7 @@ use Rattle.bt_answers.specs.Lensing.{lens_values, origin_value}
 
 -- the outcome at a position of a document that is no style, with hovers as plain text if the editor takes nothing else
 abbrev pub text_answer_at : Bool → Counting → Shown → List Document → CursorQuery → Document → Position → Data → Result Data RpcError
-text_answer_at plain c shown docs Hover d at m = Ok (hover_at shown.entry_text plain d at)
+text_answer_at plain c shown docs Hover d at m = Ok (hovered_at shown plain d at)
 text_answer_at plain c shown docs Definition d at m = Ok (definition_at shown.files docs c d at)
 text_answer_at plain c shown docs References d at m = Ok (references_at shown.files docs c d at (wants_declarations m))
 text_answer_at plain c shown docs Rename d at m = renamed_at shown.files docs c d at (text_at (codes "/params/newName") m)

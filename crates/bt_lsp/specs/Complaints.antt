@@ -1,17 +1,16 @@
 -- What an editor is told of errors about files for which no open document has a place.
-use Rattle.std.specs.Prelude.{ℕ, Bool, false, ◌&&◌, ◌||◌, not, if◌then◌else◌, List, [], ◌∷◌, ◌++◌, codes, bytes_eq, Option, Some, None}
+use Rattle.std.specs.Prelude.{ℕ, Bool, false, ◌&&◌, ◌||◌, not, if◌then◌else◌, List, [], ◌∷◌, ◌++◌, codes, length, bytes_eq, Option, Some, None}
 use Rattle.std.specs.List.{fold}
-use Rattle.std.specs.Str.Lossy.{utf8_lossy}
+use Rattle.bt_shapes.specs.Text.{as_utf8}
 use Rattle.serde_json.specs.Data.{Data}
 use Rattle.bt_log.specs.declared.message.Message.{Message}
 use Rattle.bt_log.specs.declared.message.Place.{Place}
 use Rattle.bt_log.specs.declared.message.Place.TheVariants.{Line, DatabaseLine, WholeFile, Step}
-use Rattle.bt_log.specs.Wording.{said_words}
 use Rattle.bt_documents.specs.declared.document.Document.{Document}
 use Rattle.bt_mentions.specs.declared.linking.Link.{Link}
 use Rattle.bt_mentions.specs.Links.{links}
 use Rattle.bt_places.specs.Entries.{is_tex}
-use Rattle.bt_answers.specs.Faults.{faulty_file, is_fault, is_some_text, linked_name}
+use Rattle.bt_answers.specs.Faults.{fault_words, faulty_file, is_fault, is_some_text, linked_name}
 use Rattle.bt_lsp.specs.News.{run_name, warning}
 use Rattle.bt_places.specs.Shown.{Shown}
 
@@ -46,7 +45,7 @@ is_homeless shown docs m = is_fault m && not (fold (or_shown_in shown m) false d
 -- a text with what such an error says
 abbrev pub with_complaint : Shown → List Document → List ℕ → Message → List ℕ
 with_complaint shown docs words m =
-    if is_homeless shown docs m then words ++ (codes " " ++ said_words m.said ++ codes ".") else words
+    if is_homeless shown docs m then words ++ (codes " " ++ fault_words (length shown.files) m.said ++ codes ".") else words
 
 -- what is said if there has been no run, since there is no job: its log is empty
 abbrev pub jobless_words : List ℕ
@@ -59,7 +58,7 @@ complaints shown docs =
 
 -- the warning in these words
 abbrev pub complaint : List ℕ → Data
-complaint words = warning (utf8_lossy (codes "bibtex-lsp:" ++ words))
+complaint words = warning (as_utf8 (codes "bibtex-lsp:" ++ words))
 
 -- a list with what there is to say, unless that is nothing or was said before
 abbrev pub with_complaints : List ℕ → List ℕ → List Data → List Data

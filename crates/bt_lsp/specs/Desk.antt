@@ -97,7 +97,7 @@ IsOutcome m query Ready Unknown d outcome e = (outcome ≡ query Unknown) × (e 
 -- document, what is announced, and that the first run has ended, if it was said to begin.
 abbrev pub news_with : {P : Type 0} → (P → Shown) → List ℕ → Bool → Bool → List ℕ → Bool → Notice → Data → Server P → List Data
 news_with shown words lost running said behind notice m e =
-    with_end running (news e.announced e.shows_related (shown e.paper) e.checked e.documents
+    with_end running (news e.announced e.shows_related e.step_words (shown e.paper) e.checked e.documents
     (with_complaints said words (warnings lost behind ++ cleared notice m)))
 
 -- the news of a desk, which complains of errors about files for which no document has a place
@@ -105,14 +105,25 @@ abbrev pub news_of : {P : Type 0} → (P → Shown) → Bool → Bool → List �
 news_of shown lost running said behind notice m e =
     news_with shown (complaints (shown e.paper) e.documents) lost running said behind notice m e
 
+-- the desk before, with what the desk after says of what was told and found
+abbrev pub with_told : {P : Type 0} → Server P → Server P → Server P
+with_told d e = record d {
+  lost = e.lost;
+  in_progress = e.in_progress;
+  said = e.said;
+  pending = e.pending;
+  checked = e.checked;
+  step_words = e.step_words;
+}
+
 -- What the editor is told: warnings if a message was lost or memory ran out for a text, the complaints if they differ from
 -- those before, and the diagnostics of each open document as the run has them now, with what was found in checked styles, and
 -- what is announced. If memory runs out, it is told nothing. The desk knows whether it owes news, and of what it complained.
-abbrev pub Tells : {P : Type 0} → (P → Shown) → Bool → Bool → List ℕ → Bool → Notice → Data → List Data → Server P → Type 0
-Tells shown lost running said behind notice m told e =
-    ((told ≡ news_of shown lost running said behind notice m e) × (e.lost ≡ false) × (e.in_progress ≡ false) ×
+abbrev pub Tells : {P : Type 0} → (P → Shown) → Server P → Bool → Notice → Data → List Data → Server P → Type 0
+Tells shown d behind notice m told e =
+    ((told ≡ news_of shown d.lost d.in_progress d.said behind notice m e) × (e.lost ≡ false) × (e.in_progress ≡ false) ×
     (e.said ≡ complaints (shown e.paper) e.documents) × (e.pending ≡ behind)) ⊎
-    ((told ≡ []) × (e.lost ≡ lost) × (e.in_progress ≡ running) × (e.said ≡ said) × (e.pending ≡ true))
+    ((told ≡ []) × (e.lost ≡ d.lost) × (e.in_progress ≡ d.in_progress) × (e.said ≡ d.said) × (e.pending ≡ true))
 
 -- The documents change as a notification says, and the desk knows if files have to be read again; or they stay, and it knows
 -- that the notification is lost.
@@ -133,7 +144,7 @@ pub record Carried {P : Type 0} (text : P → List ℕ → Option (List ℕ)) (s
   pub due : IsTrue e.stale → IsTrue next.stale
   pub unread : IsTrue e.stale → IsTrue behind
   pub lags : IsTrue behind → IsTrue e.stale ⊎ IsTrue (any_behind e.documents)
-  pub says : Tells shown next.lost next.in_progress next.said behind notice m told e
+  pub says : Tells shown next behind notice m told e
   pub follows : Follows (text d.paper) d.documents → Follows (text e.paper) e.documents
   pub is : e ≡ record d {
     paper = e.paper;
@@ -144,6 +155,7 @@ pub record Carried {P : Type 0} (text : P → List ℕ → Option (List ℕ)) (s
     said = e.said;
     pending = e.pending;
     checked = e.checked;
+    step_words = e.step_words;
   }
 
 -- the paper has begun as this message says, if there is one

@@ -3,6 +3,7 @@ pub mod Changes
 pub mod Progress
 pub mod Watching
 pub mod Announcing
+pub mod Placing
 pub mod News
 pub mod Complaints
 pub mod Taken

@@ -1,5 +1,5 @@
 -- What the editor is told after a change.
-use Rattle.std.specs.Prelude.{ℕ, nat_lt, not, ◌||◌, Bool, if◌then◌else◌, List, [], ◌∷◌, ◌++◌, map, length, codes, Option, Some, None}
+use Rattle.std.specs.Prelude.{ℕ, nat_lt, not, ◌||◌, ◌&&◌, Bool, if◌then◌else◌, List, [], ◌∷◌, ◌++◌, map, length, codes, Option, Some, None}
 use Rattle.serde_json.specs.Data.{Data, number, unsigned, string, object, member, no_members}
 use Rattle.bt_rpc.specs.Messages.{notification}
 use Rattle.bt_documents.specs.declared.document.Document.{Document}
@@ -11,14 +11,17 @@ use Rattle.bt_places.specs.Shown.{Shown}
 use Rattle.bt_lsp.specs.declared.announcing.Announced.{Announced}
 use Rattle.bt_lsp.specs.Announcing.{with_announced}
 use Rattle.bt_places.specs.Parameters.{text_at}
-use Rattle.bt_places.specs.Entries.{is_tex, or_empty}
+use Rattle.bt_places.specs.Entries.{is_style, is_tex, or_empty}
 use Rattle.bt_answers.specs.Keys.{role_of, key_spans}
 use Rattle.bt_answers.specs.Faults.{with_faults}
 use Rattle.bt_answers.specs.Hints.{with_hints}
 use Rattle.bt_answers.specs.Related.{diagnostics_in}
 use Rattle.bt_places.specs.Shapes.{published}
+use Rattle.bt_lsp.specs.Placing.{fault_in, found_in, with_messages}
 use Rattle.bt_lsp.specs.Styles.{with_style_hints}
-use Rattle.bt_style_findings.specs.declared.checked.Checked.{Checked}
+use Rattle.bt_style_text.specs.declared.words.Word.{Word}
+use Rattle.bt_remarks.specs.declared.checked.Checked.{Checked}
+use Rattle.bt_remarks.specs.declared.step_word.StepWord.{StepWord}
 
 -- the name that the run has for a document's file; empty if it has none
 abbrev pub run_name : Shown → Document → List ℕ
@@ -36,20 +39,39 @@ shown_of shown d =
     if not (shows d) || nat_lt 1073741824 (length d.text) then []
     else diagnostics (run_name shown d) d.counting d.text (role_of d.name) (key_spans shown d) shown.messages
 
+-- whether a document is a style of at most 256 KiB of which the run has the text
+abbrev pub is_run_style : Document → Bool
+is_run_style d = d.in_step && is_style d.name && not (nat_lt 262144 (length d.text))
+
+-- the word of the fault of the run's style, if a document is that and the word is known
+abbrev pub fault_for : Shown → Document → Option Word
+fault_for shown d = if is_run_style d then fault_in (run_name shown d) d.text shown.messages else None
+
+-- the diagnostics of the run's style, at words
+abbrev pub style_values : Bool → Option Word → List (Option StepWord) → Shown → Document → List Data
+style_values relates fault words shown d =
+    with_messages relates d fault (found_in (run_name shown d) d (role_of d.name) (key_spans shown d)) words [] shown.messages
+
+-- the diagnostics of a document in the form of the protocol
+abbrev pub values_of : Bool → Option Word → List (Option StepWord) → Shown → Document → List Data
+values_of relates fault words shown d =
+    if is_run_style d then style_values relates fault words shown d else diagnostics_in relates d (shown_of shown d)
+
 -- the notification that publishes them, errors about files at their names, the hints, and what the check of a style found
-abbrev pub published_of : Bool → Shown → List Checked → Document → Data
-published_of relates shown checked d =
-    published d.name (with_style_hints checked d (with_hints shown.files d
-    (with_faults shown.messages d (diagnostics_in relates d (shown_of shown d)))))
+abbrev pub published_of : Bool → List (Option StepWord) → Shown → List Checked → Document → Data
+published_of relates words shown checked d =
+    let fault = fault_for shown d in
+    published d.name (with_style_hints checked fault d (with_hints shown.files d
+    (with_faults shown d (values_of relates fault words shown d))))
 
 -- the diagnostics of each open document
-abbrev pub all_published : Bool → Shown → List Checked → List Document → List Data
-all_published relates shown checked docs = map (published_of relates shown checked) docs
+abbrev pub all_published : Bool → List (Option StepWord) → Shown → List Checked → List Document → List Data
+all_published relates words shown checked docs = map (published_of relates words shown checked) docs
 
 -- what comes first, then the diagnostics of each open document, and what is announced
-abbrev pub news : Announced → Bool → Shown → List Checked → List Document → List Data → List Data
-news announced relates shown checked docs first =
-    with_announced announced shown (first ++ all_published relates shown checked docs)
+abbrev pub news : Announced → Bool → List (Option StepWord) → Shown → List Checked → List Document → List Data → List Data
+news announced relates words shown checked docs first =
+    with_announced announced shown (first ++ all_published relates words shown checked docs)
 
 -- what the editor is told if a message was lost
 abbrev pub lost_words : List ℕ

@@ -6,6 +6,7 @@ use Rattle.bt_positions.specs.declared.indexed_text.Position.{Position}
 use Rattle.bt_documents.specs.declared.document.Document.{Document}
 use Rattle.bt_rpc.specs.declared.answers.RpcError.{RpcError}
 use Rattle.bt_rpc.specs.declared.answers.RpcError.TheVariants.{InvalidParams, BadName, TakenName, UndeclaredName}
+use Rattle.bt_style_text.specs.declared.words.Word.{Word}
 use Rattle.bt_style_text.specs.declared.renaming.RenameRefusal.{RenameRefusal}
 use Rattle.bt_style_text.specs.declared.renaming.RenameRefusal.TheVariants.{NotDeclared, NoName, Taken}
 use Rattle.bt_style_answers.specs.Hovering.{hover_at}
@@ -15,16 +16,16 @@ use Rattle.bt_style_answers.specs.Completion.{completion_at}
 use Rattle.bt_style_answers.specs.Outline.{symbols_in}
 use Rattle.bt_style_answers.specs.Folding.{folds_in}
 use Rattle.bt_style_answers.specs.Hinting.{hints_in}
-use Rattle.bt_style_findings.specs.declared.checked.Checked.{Checked}
-use Rattle.bt_style_findings.specs.Checked.{found_for}
-use Rattle.bt_style_findings.specs.Values.{finding}
+use Rattle.bt_remarks.specs.declared.checked.Checked.{Checked}
+use Rattle.bt_remarks.specs.Checked.{found_for}
+use Rattle.bt_remarks.specs.Values.{finding}
 use Rattle.bt_lsp.specs.declared.methods.CursorQuery.{CursorQuery}
 use Rattle.bt_lsp.specs.declared.methods.CursorQuery.TheVariants.{Hover, Definition, References, Rename, NameRange, Completion}
 use Rattle.bt_lsp.specs.declared.methods.DocumentQuery.{DocumentQuery}
 use Rattle.bt_lsp.specs.declared.methods.DocumentQuery.TheVariants.{Outline, Folds, Format, Actions, Links}
 use Rattle.bt_places.specs.Entries.{is_style}
 use Rattle.bt_places.specs.Parameters.{text_at, wants_declarations}
-use Rattle.bt_writing.specs.Trials.{trials}
+use Rattle.bt_writing.specs.StyleActions.{actions_in_style}
 
 -- why a request has no result
 abbrev pub error_of : RenameRefusal → RpcError
@@ -62,7 +63,7 @@ abbrev pub said_of : List Checked → List Document → DocumentQuery → Docume
 said_of checked docs Outline d m = symbols_in d.counting d.text
 said_of checked docs Folds d m = folds_in d.counting d.text
 said_of checked docs Format d m = null
-said_of checked docs Actions d m = trials checked docs d m
+said_of checked docs Actions d m = actions_in_style checked docs d m
 said_of checked docs Links d m = null
 
 -- the answer for a style of at most 1 GiB
@@ -74,8 +75,9 @@ style_answer_of checked docs query d m =
 abbrev pub findings_of : List Checked → Document → List Data
 findings_of checked d = map (finding d.counting d.name d.text) (found_for d.name d.text checked)
 
--- a list with the hints for a document, and with what was found in it, if it is a style of at most 256 KiB
-abbrev pub with_style_hints : List Checked → Document → List Data → List Data
-with_style_hints checked d list =
+-- a list with the hints for a document with a fault at this word, and with what was found in it, if it is a style of at most
+-- 256 KiB
+abbrev pub with_style_hints : List Checked → Option Word → Document → List Data → List Data
+with_style_hints checked fault d list =
     if not (is_style d.name) || nat_lt 262144 (length d.text) then list
-    else list ++ hints_in d.counting d.text ++ findings_of checked d
+    else list ++ hints_in d.counting fault d.text ++ findings_of checked d

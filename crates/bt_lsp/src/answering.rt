@@ -10,12 +10,12 @@ use crate::found::Found;
 use crate::methods::{CursorQuery, DocumentQuery, PaperQuery, Request, RunQuery};
 use crate::styles::{style_answer_at, style_answer_of};
 use bt_answers::{
-    folds_of, formatted, lens_values, links_of, name_range_at, origin_value, references_at,
-    renamed_at, symbols_for, symbols_of,
+    folds_of, formatted, hovered_at, lens_values, links_of, name_range_at, origin_value,
+    references_at, renamed_at, symbols_for, symbols_of,
 };
 use bt_documents::Document;
 use bt_places::{
-    Editor, Paper, document_of, hover_at, is_style, place_of, shown_status, shown_text, text_at,
+    Editor, Paper, document_of, is_style, place_of, shown_status, shown_text, text_at,
     wants_declarations,
 };
 use bt_positions::Position;
@@ -39,7 +39,7 @@ fn text_answer_at<P: Paper>(
         document.now at (view message.now)) }
 {
     match query {
-        CursorQuery::Hover => Ok(Ok(hover_at(alloc, paper, plain, document, at)?)),
+        CursorQuery::Hover => Ok(Ok(hovered_at(alloc, paper, plain, document, at)?)),
         CursorQuery::Definition => Ok(Ok(definition_at(alloc, paper, editor, document, at)?)),
         CursorQuery::References => {
             let with_declarations = wants_declarations(message);

@@ -5,18 +5,19 @@ ghost use Rattle.std.specs.Prelude.{◌≡◌, ◌++◌, ◌⊎◌, ◌||◌, is
 ghost use Rattle.serde_json.specs.View.{view};
 ghost use Rattle.bt_documents.specs.Documents.{AreGiven, any_behind, Follows};
 ghost use Rattle.bt_lsp.specs.Complaints.{complaints};
-ghost use Rattle.bt_lsp.specs.Desk.{news_of, news_with, BeginsBy, IsStarted, IsLost, TakenOrLost, Tells, Carried, TakenUp};
+ghost use Rattle.bt_lsp.specs.Desk.{news_of, news_with, BeginsBy, IsStarted, IsLost, TakenOrLost, with_told, Tells, Carried, TakenUp};
 ghost use Rattle.bt_lsp.specs.declared.methods.Notice.TheVariants.{Changed};
 
 use crate::complaints::{complaints, with_complaints};
 use crate::methods::Notice;
-use crate::news::{first_news, news};
+use crate::news::{Extras, first_news, is_run_style, news};
 use crate::progress::with_end;
 use crate::server::Server;
 use crate::styles::check_styles;
 use crate::taking::take;
 use bt_documents::{Document, give_again};
 use bt_places::{Paper, text_at};
+use bt_remarks::{Remarks, StepWord};
 use bt_streams::Ahead;
 use bt_text::{Bytes, Sequence};
 use serde_json::Value;
@@ -135,11 +136,15 @@ fn all_news<P: Paper>(
 {
     let first = first_news(alloc, server.lost, behind, notice, message)?;
     let first = with_complaints(alloc, server.said.as_slice(), complaints, first)?;
+    let extras = Extras {
+        relates: server.shows_related,
+        step_words: server.step_words.as_slice(),
+        checked: server.checked.as_slice(),
+    };
     let told = news(
         alloc,
-        server.shows_related,
+        &extras,
         &server.paper,
-        server.checked.as_slice(),
         server.documents.as_slice(),
         server.announced,
         first,
@@ -166,25 +171,49 @@ fn told<P: Paper>(
     Ok((told, said))
 }
 
-/// Checks the styles whose texts are new, and tells the news. If memory runs out for either, it tells nothing.
-fn tell<P: Paper>(
+/// Finds the words of the run's style that ran when its messages came, if the style is open.
+fn trace<P: Remarks>(
+    alloc: Global,
+    paper: &P,
+    documents: &[Document],
+) -> Result<Sequence<Option<StepWord>>, AllocError> {
+    'documents: for document in documents {
+        if is_run_style(document) {
+            return paper.step_words(alloc, document.name.as_slice());
+        }
+    }
+    Ok(Sequence::new(alloc))
+}
+
+/// Checks the styles whose texts are new, and finds the words at which the run's messages came in an open one.
+fn look<P: Paper + Remarks>(alloc: Global, server: &mut Server<P>) -> Result<(), AllocError>
+    ensures { server.new ≡ record server.old {
+      checked = server.new.checked;
+      step_words = server.new.step_words;
+    } }
+{
+    check_styles(
+        alloc,
+        &server.paper,
+        &mut server.checked,
+        server.documents.as_slice(),
+    )?;
+    server.step_words = trace(alloc, &server.paper, server.documents.as_slice())?;
+    Ok(())
+}
+
+/// Looks at the open styles, and tells the news. If memory runs out for either, it tells nothing.
+fn tell<P: Paper + Remarks>(
     alloc: Global,
     server: &mut Server<P>,
     behind: bool,
     notice: Notice,
     message: &Value,
 ) -> Vec<Value>
-    ensures told { Tells P.shown server.old.lost server.old.in_progress server.old.said behind notice (view message.now)
-        (map view result.items) server.new }
-    ensures rest { server.new ≡ record server.old {
-      lost = server.new.lost;
-      in_progress = server.new.in_progress;
-      said = server.new.said;
-      pending = server.new.pending;
-      checked = server.new.checked;
-    } }
+    ensures told { Tells P.shown server.old behind notice (view message.now) (map view result.items) server.new }
+    ensures rest { server.new ≡ with_told server.old server.new }
 {
-    let told = match check_styles(alloc, &mut server.checked, server.documents.as_slice()) {
+    let told = match look(alloc, server) {
         Ok(()) => told(alloc, server, behind, notice, message),
         Err(error) => Err(error),
     };
@@ -204,7 +233,7 @@ fn tell<P: Paper>(
 }
 
 /// Takes a notification, lets the paper catch up, and tells the news.
-fn carry<P: Paper>(
+fn carry<P: Paper + Remarks>(
     alloc: Global,
     server: &mut Server<P>,
     notice: Notice,
@@ -228,7 +257,7 @@ fn put_off<P: Paper>(alloc: Global, server: &mut Server<P>, message: &Value) -> 
 
 /// Takes a notification and tells the news. If more input is there already behind a change, both the paper and the editor
 /// wait for the last one.
-fn carry_or_put_off<P: Paper>(
+fn carry_or_put_off<P: Paper + Remarks>(
     alloc: Global,
     server: &mut Server<P>,
     notice: Notice,
@@ -253,7 +282,7 @@ fn lose<P: Paper>(server: &mut Server<P>)
 
 /// Begins the paper, if it hasn't begun, takes a notification and tells the news. Without memory for the paper, the
 /// notification is lost.
-pub fn take_up<P: Paper>(
+pub fn take_up<P: Paper + Remarks>(
     alloc: Global,
     server: &mut Server<P>,
     notice: Notice,

@@ -4,11 +4,11 @@
 ghost use Rattle.std.specs.Prelude.{◌≡◌, ◌++◌, false, map, codes, IfOk, OnOk};
 ghost use Rattle.std.specs.List.{fold};
 ghost use Rattle.serde_json.specs.View.{view};
-ghost use Rattle.bt_log.specs.Wording.{said_words};
+ghost use Rattle.bt_answers.specs.Faults.{fault_words};
 ghost use Rattle.bt_lsp.specs.Complaints.{or_means, names_file, file_of, is_shown_in, or_shown_in, is_homeless, with_complaint, jobless_words, complaints, complaint, with_complaints};
 
 use crate::news::{run_name, warning};
-use bt_answers::{faulty_file, is_fault, is_some_text, linked_name, said};
+use bt_answers::{fault_words, faulty_file, is_fault, is_some_text, linked_name};
 use bt_documents::Document;
 use bt_log::{Message, Place};
 use bt_mentions::{Link, links};
@@ -127,10 +127,15 @@ fn is_homeless<P: Paper>(
     Ok(!shown)
 }
 
-fn add_sentence(alloc: Global, words: &mut Bytes, message: &Message) -> Result<(), AllocError>
-    ensures { OnOk result (words.new ≡ words.old ++ (codes " " ++ said_words message.now.said ++ codes ".")) }
+fn add_sentence(
+    alloc: Global,
+    count: usize,
+    words: &mut Bytes,
+    message: &Message,
+) -> Result<(), AllocError>
+    ensures { OnOk result (words.new ≡ words.old ++ (codes " " ++ fault_words count message.now.said ++ codes ".")) }
 {
-    let said = said(alloc, message)?;
+    let said = fault_words(alloc, count, &message.said)?;
     words.append_all(&[b" ", said.as_slice(), b"."])
 }
 
@@ -146,7 +151,7 @@ fn add_complaint<P: Paper>(
     if !is_homeless(alloc, paper, documents, message)? {
         return Ok(());
     }
-    add_sentence(alloc, words, message)
+    add_sentence(alloc, paper.file_count(), words, message)
 }
 
 fn add_complaints<P: Paper>(

@@ -4,9 +4,9 @@
 use crate::methods::{CursorQuery, Request, RunQuery};
 use bt_documents::Document;
 use bt_effects::stack_notes;
-use bt_lenses::{Lens, Origin};
 use bt_places::{Paper, cursor_of, document_of, is_style, place_of};
 use bt_positions::{Counting, IndexedText, Position};
+use bt_remarks::{Lens, Origin};
 use bt_text::{Bytes, Sequence};
 use serde_json::Value;
 use std::alloc::{AllocError, Global};

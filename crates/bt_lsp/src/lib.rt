@@ -13,6 +13,7 @@ mod complaints;
 mod found;
 mod methods;
 mod news;
+mod placing;
 mod progress;
 mod server;
 mod styles;

@@ -1,22 +1,35 @@
 //! What the editor is told after a change: the diagnostics of each open document.
 
-ghost use Rattle.std.specs.Prelude.{◌≡◌, ◌++◌, ◌∷◌, [], map, IfOk};
+ghost use Rattle.std.specs.Prelude.{◌≡◌, ◌<◌, ◌*◌, ◌^◌, ◌++◌, ◌∷◌, [], length, map, IfOk};
 ghost use Rattle.serde_json.specs.View.{view};
-ghost use Rattle.bt_lsp.specs.News.{run_name, shows, shown_of, published_of, warning_params, warning, lost_words, behind_words, warned, warnings, cleared, all_published, news};
+ghost use Rattle.bt_lsp.specs.News.{run_name, shows, shown_of, is_run_style, fault_for, style_values, values_of, published_of, warning_params, warning, lost_words, behind_words, warned, warnings, cleared, all_published, news};
 ghost use Rattle.bt_places.specs.Shapes.{published};
 
 use crate::announcing::{Announced, with_announced};
 use crate::methods::Notice;
-use crate::styles::with_style_hints;
+use crate::placing::{OpenStyle, fault_in, style_diagnostics};
+use crate::styles::{HINTED_BYTES, with_style_hints};
 use bt_answers::{diagnostics_in, keys_of, with_faults, with_hints};
 use bt_diagnostics::{Diagnostic, diagnostics};
 use bt_documents::Document;
-use bt_places::{Paper, SHOWN_BYTES, is_tex, published, text_at};
+use bt_places::{Paper, SHOWN_BYTES, is_style, is_tex, published, text_at};
+use bt_remarks::{Checked, StepWord};
 use bt_rpc::notification;
-use bt_style_findings::Checked;
+use bt_style_text::Word;
 use bt_text::Sequence;
 use serde_json::{Value, json};
 use std::alloc::{AllocError, Global};
+
+/// What is shown beside the messages of the run.
+#[derive(Clone, Copy)]
+pub struct Extras<'a> {
+    /// Whether the editor shows places related to a diagnostic.
+    pub relates: bool,
+    /// For each message the word of the run's style that ran when it came.
+    pub step_words: &'a [Option<StepWord>],
+    /// What was found in styles.
+    pub checked: &'a [Checked],
+}
 
 /// The name that the run has for a document's file; empty if it has none.
 pub fn run_name<'a, P: Paper>(paper: &'a P, document: &Document) -> &'a [u8]
@@ -57,20 +70,90 @@ fn shown_of<P: Paper>(
     )
 }
 
+/// Whether a document is a style of which the run has the text, and small enough to be read several times.
+pub fn is_run_style(document: &Document) -> bool
+    ensures { result ≡ is_run_style document.now }
+{
+    document.in_step
+        && is_style(document.name.as_slice())
+        && document.text.as_slice().len() <= HINTED_BYTES
+}
+
+/// The word of the fault of the run's style, if a document is that and the word is known.
+fn fault_for<P: Paper>(
+    alloc: Global,
+    paper: &P,
+    document: &Document,
+) -> Result<Option<Word>, AllocError>
+    ensures { IfOk result (λ word. word ≡ fault_for (P.shown paper.now) document.now) }
+{
+    if !is_run_style(document) {
+        return Ok(None);
+    }
+    fault_in(
+        alloc,
+        run_name(paper, document),
+        &document.text,
+        paper.messages(),
+    )
+}
+
+/// The diagnostics of a style, at its words.
+fn style_values<P: Paper>(
+    alloc: Global,
+    extras: &Extras<'_>,
+    fault: Option<Word>,
+    paper: &P,
+    document: &Document,
+) -> Result<Vec<Value>, AllocError>
+    requires { 2 * length document.now.text < 2 ^ 64 }
+    ensures { IfOk result (λ list. map view list.items ≡
+        style_values extras.now.relates fault extras.now.step_words.now (P.shown paper.now) document.now) }
+{
+    let keys = keys_of(alloc, paper, document)?;
+    let style = OpenStyle {
+        name: run_name(paper, document),
+        document,
+        keys: &keys,
+        fault,
+        relates: extras.relates,
+    };
+    let list = style_diagnostics(alloc, &style, extras.step_words, paper.messages())?;
+    Ok(list)
+}
+
+fn values_of<P: Paper>(
+    alloc: Global,
+    extras: &Extras<'_>,
+    fault: Option<Word>,
+    paper: &P,
+    document: &Document,
+) -> Result<Vec<Value>, AllocError>
+    ensures { IfOk result (λ list. map view list.items ≡
+        values_of extras.now.relates fault extras.now.step_words.now (P.shown paper.now) document.now) }
+{
+    if is_run_style(document) {
+        return style_values(alloc, extras, fault, paper, document);
+    }
+    let shown = shown_of(alloc, paper, document)?;
+    let list = diagnostics_in(alloc, extras.relates, document, shown.as_slice())?;
+    Ok(list)
+}
+
 fn published_of<P: Paper>(
     alloc: Global,
-    relates: bool,
+    extras: &Extras<'_>,
     paper: &P,
-    checked: &[Checked],
     document: &Document,
 ) -> Result<Value, AllocError>
-    ensures { IfOk result (λ v. view v ≡ published_of relates (P.shown paper.now) checked.now document.now) }
+    ensures { IfOk result (λ v. view v ≡ published_of extras.now.relates extras.now.step_words.now (P.shown paper.now)
+        extras.now.checked.now document.now) }
 {
-    let shown = shown_of(alloc, paper, document)?;
-    let list = diagnostics_in(alloc, relates, document, shown.as_slice())?;
-    let list = with_faults(alloc, paper.messages(), document, list)?;
+    let fault = fault_for(alloc, paper, document)?;
+    let list = values_of(alloc, extras, fault, paper, document)?;
+    let list = with_faults(alloc, paper, document, list)?;
     let list = with_hints(alloc, paper, document, list)?;
-    let list = with_style_hints(alloc, checked, document, list)?;
+    let list = with_style_hints(alloc, extras.checked, fault, document, list)?;
     published(alloc, document.name.as_slice(), list)
 }
 
@@ -153,18 +236,18 @@ pub fn first_news(
 /// Adds the diagnostics of each open document.
 fn with_diagnostics<P: Paper>(
     alloc: Global,
-    relates: bool,
+    extras: &Extras<'_>,
     paper: &P,
-    checked: &[Checked],
     documents: &[Document],
     first: Vec<Value>,
 ) -> Result<Vec<Value>, AllocError>
     ensures { IfOk result (λ told. map view told.items ≡
-        map view first.items ++ all_published relates (P.shown paper.now) checked.now documents.now) }
+        map view first.items ++ all_published extras.now.relates extras.now.step_words.now (P.shown paper.now)
+        extras.now.checked.now documents.now) }
 {
     let mut told = first;
     'documents: for document in documents {
-        told.push(published_of(alloc, relates, paper, checked, document)?)?;
+        told.push(published_of(alloc, extras, paper, document)?)?;
     }
     Ok(told)
 }
@@ -172,17 +255,17 @@ fn with_diagnostics<P: Paper>(
 /// What comes first, then the diagnostics of each open document, and what is announced.
 pub fn news<P: Paper>(
     alloc: Global,
-    relates: bool,
+    extras: &Extras<'_>,
     paper: &P,
-    checked: &[Checked],
     documents: &[Document],
     announced: Announced,
     first: Vec<Value>,
 ) -> Result<Vec<Value>, AllocError>
     ensures { IfOk result (λ told. map view told.items ≡
-        news announced relates (P.shown paper.now) checked.now documents.now (map view first.items)) }
+        news announced extras.now.relates extras.now.step_words.now (P.shown paper.now)
+        extras.now.checked.now documents.now (map view first.items)) }
 {
-    let list = with_diagnostics(alloc, relates, paper, checked, documents, first)?;
+    let list = with_diagnostics(alloc, extras, paper, documents, first)?;
     let told = with_announced(alloc, paper, announced, list)?;
     Ok(told)
 }

@@ -16,9 +16,9 @@ use crate::watching::{greeting, watches_files};
 use bt_answers::shows_related;
 use bt_documents::Document;
 use bt_places::{Editor, Paper, capabilities, counting_of, has_word_at};
+use bt_remarks::{Checked, Remarks, StepWord};
 use bt_rpc::RpcError;
 use bt_streams::Ahead;
-use bt_style_findings::Checked;
 use bt_talk::{Desk, Reply};
 use bt_text::{Bytes, Sequence};
 use serde_json::Value;
@@ -75,6 +75,8 @@ pub struct Server<P> {
     pub said: Bytes,
     /// What was found in the open styles.
     pub checked: Sequence<Checked>,
+    /// For each message the word of the open style that ran when it came.
+    pub step_words: Sequence<Option<StepWord>>,
     /// What the editor has announced after each change.
     pub announced: Announced,
     /// Whether `exit` came.
@@ -130,6 +132,7 @@ impl<P: Paper> Server<P> {
             in_progress: false,
             said: Bytes::new(alloc),
             checked: Sequence::new(alloc),
+            step_words: Sequence::new(alloc),
             announced: Announced {
                 bibliography: false,
                 log: false,
@@ -281,7 +284,7 @@ fn owes(phase: Phase, pending: bool) -> bool
 }
 
 /// Tells the news that the desk owes, before a request is answered.
-fn settle<P: Paper>(alloc: Global, server: &mut Server<P>, message: &Value) -> Vec<Value>
+fn settle<P: Paper + Remarks>(alloc: Global, server: &mut Server<P>, message: &Value) -> Vec<Value>
     ensures { SettledIf P.begins P.text P.shown (owes server.old.phase (is_behind server.old)) server.old (view message.now)
         (map view result.items) server.new }
 {
@@ -292,7 +295,7 @@ fn settle<P: Paper>(alloc: Global, server: &mut Server<P>, message: &Value) -> V
     }
 }
 
-impl<P: Paper + Drop> Desk for Server<P> {
+impl<P: Paper + Remarks + Drop> Desk for Server<P> {
     ghost use Rattle.bt_lsp.specs.Desk.{Answered, Noted, IsLost};
 
     ghost answers = { λ d method m outcome told e. Answered P.begins P.text P.shown d method m outcome told e };

@@ -10,20 +10,20 @@ use crate::methods::{CursorQuery, DocumentQuery};
 use bt_documents::Document;
 use bt_places::{Editor, SHOWN_BYTES, is_style, text_at, wants_declarations};
 use bt_positions::Position;
+use bt_remarks::{Checked, Remarks, check_again, found_for, with_findings};
 use bt_rpc::RpcError;
 use bt_style_answers::ShownStyle;
-use bt_style_findings::{Checked, check_again, found_for, with_findings};
-use bt_style_text::RenameRefusal;
+use bt_style_text::{RenameRefusal, Word};
 use bt_text::Sequence;
-use bt_writing::trials_for;
+use bt_writing::actions_in_style;
 use serde_json::Value;
 use std::alloc::{AllocError, Global};
 
 /// The most bytes of a style that is checked after each change: 256 KiB.
-const HINTED_BYTES: usize = 262_144;
+pub const HINTED_BYTES: usize = 262_144;
 
 /// A document's text as that of a style.
-fn shown_style(document: &Document) -> ShownStyle<'_>
+pub fn shown_style(document: &Document) -> ShownStyle<'_>
     requires { 2 * length document.now.text < 2 ^ 64 }
     ensures uri { result.uri.now ≡ document.now.name }
     ensures counting { result.counting ≡ document.now.counting }
@@ -140,7 +140,7 @@ fn said_of(
     match query {
         DocumentQuery::Outline => shown_style(document).symbols(alloc),
         DocumentQuery::Folds => shown_style(document).folds(alloc),
-        DocumentQuery::Actions => trials_for(alloc, editor, document, message),
+        DocumentQuery::Actions => actions_in_style(alloc, editor, document, message),
         DocumentQuery::Format | DocumentQuery::Links => Ok(Value::Null),
     }
 }
@@ -163,8 +163,9 @@ pub fn style_answer_of(
 }
 
 /// Checks a document, if it is a style whose text is new.
-fn check_document(
+fn check_document<R: Remarks>(
     alloc: Global,
+    remarks: &R,
     checked: &mut Sequence<Checked>,
     document: &Document,
 ) -> Result<(), AllocError> {
@@ -173,17 +174,18 @@ fn check_document(
     if !is_style(name) || text.len() > HINTED_BYTES {
         return Ok(());
     }
-    check_again(alloc, checked, name, text)
+    check_again(alloc, remarks, checked, name, text)
 }
 
 /// Checks the styles whose texts are new.
-pub fn check_styles(
+pub fn check_styles<R: Remarks>(
     alloc: Global,
+    remarks: &R,
     checked: &mut Sequence<Checked>,
     documents: &[Document],
 ) -> Result<(), AllocError> {
     for document in documents {
-        check_document(alloc, checked, document)?;
+        check_document(alloc, remarks, checked, document)?;
     }
     Ok(())
 }
@@ -204,21 +206,22 @@ fn with_found(
     with_findings(alloc, document.counting, name, text, found, list)
 }
 
-/// Adds the hints and the findings for a document, if it is a style.
+/// Adds the hints and the findings for a document, if it is a style. It may have a fault at this word.
 pub fn with_style_hints(
     alloc: Global,
     checked: &[Checked],
+    fault: Option<Word>,
     document: &Document,
     list: Vec<Value>,
 ) -> Result<Vec<Value>, AllocError>
     ensures { IfOk result (λ all. map view all.items ≡
-        with_style_hints checked.now document.now (map view list.items)) }
+        with_style_hints checked.now fault document.now (map view list.items)) }
 {
     let size = document.text.as_slice().len();
     if !is_style(document.name.as_slice()) || size > HINTED_BYTES {
         return Ok(list);
     }
-    let hints = shown_style(document).with_hints(alloc, list)?;
+    let hints = shown_style(document).with_hints(alloc, fault, list)?;
     let all = with_found(alloc, checked, document, hints)?;
     Ok(all)
 }

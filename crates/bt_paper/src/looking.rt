@@ -1,9 +1,11 @@
 //! What the run made of a file, and where a byte of its bibliography comes from.
 
 use crate::known::{Known, name_of, uri_named};
-use bt_lenses::{FileLine, Lens, Origin, Ran, lenses, origin_at};
-use bt_origins::NamedText;
+use bt_lenses::{Ran, lenses, origin_at};
+use bt_origins::{NamedText, style_named};
+use bt_remarks::{FileLine, Lens, Origin, StepWord};
 use bt_session::AuthorSession;
+use bt_step_words::{TracedRun, step_words};
 use bt_text::{Bytes, Sequence};
 use std::alloc::{AllocError, Global};
 
@@ -45,6 +47,30 @@ pub fn lenses_at(
     };
     let files = named(alloc, session, known)?;
     lenses(ran_of(alloc, session, files.as_slice()), name)
+}
+
+/// For each message of the run the word that ran when it came, if the file at a URI is the run's style.
+pub fn step_words_at(
+    alloc: Global,
+    session: &AuthorSession,
+    known: &[Known],
+    uri: &[u8],
+) -> Result<Sequence<Option<StepWord>>, AllocError> {
+    let (Some(name), Some(style)) = (name_of(known, uri), style_named(session.messages())) else {
+        return Ok(Sequence::new(alloc));
+    };
+    let Some(text) = session.file(name) else {
+        return Ok(Sequence::new(alloc));
+    };
+    if name != style {
+        return Ok(Sequence::new(alloc));
+    }
+    step_words(TracedRun {
+        alloc,
+        messages: session.messages(),
+        kept: session.kept(),
+        text,
+    })
 }
 
 /// The same line of the file by its URI.

@@ -11,13 +11,14 @@ use crate::folders::{Folder, path_of};
 use crate::giving::{give, taken};
 use crate::known::{Known, name_of};
 use crate::library::Library;
-use crate::looking::{lenses_at, origin_of};
+use crate::looking::{lenses_at, origin_of, step_words_at};
 use crate::open_files::{add, is_among, reread};
 use bt_documents::{Document, Files, Written};
-use bt_lenses::{Lens, Origin};
 use bt_log::Message;
 use bt_places::{Paper, fits_latin};
+use bt_remarks::{Finding, Lens, Origin, Remarks, StepWord};
 use bt_session::AuthorSession;
+use bt_style_findings::findings_of;
 use bt_text::{Bytes, Sequence};
 use std::alloc::{AllocError, Global};
 use std::mem;
@@ -267,5 +268,22 @@ impl<L: Library> Paper for SessionPaper<L> {
             self.reread(alloc, n, documents)?;
         }
         self.complete(alloc)
+    }
+}
+
+impl<L: Library> Remarks for SessionPaper<L> {
+    fn step_words(
+        &self,
+        alloc: Global,
+        uri: &[u8],
+    ) -> Result<Sequence<Option<StepWord>>, AllocError> {
+        match &self.session {
+            Some(session) => step_words_at(alloc, session, self.known.as_slice(), uri),
+            None => Ok(Sequence::new(alloc)),
+        }
+    }
+
+    fn findings_of(&self, alloc: Global, text: &[u8]) -> Result<Sequence<Finding>, AllocError> {
+        findings_of(alloc, text)
     }
 }
