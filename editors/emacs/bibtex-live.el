@@ -102,23 +102,55 @@
       (setq paper (bibtex-live--new-paper :aux aux :title title :name name :view bibtex-live-view
                                           :names (list (concat name ".aux"))
                                           :places (list (cons (concat name ".aux") aux))
-                                          :folders (list (file-name-directory aux) default-directory)))
+                                          :folders (list (file-name-directory aux) default-directory
+                                                         (file-name-directory (directory-file-name (file-name-directory aux))))))
       (push paper bibtex-live--papers))
     (setf (bibtex-live--paper-resting paper) nil)
     (bibtex-live--open paper)
     (bibtex-live--watch)
     (bibtex-live--pump paper)))
 
+(defun bibtex-live--outputs (folder)
+  "FOLDER, and the folders in which LaTeX may write its files."
+  (let ((names '("." "build" "out" "output" "aux" ".aux" "tmp")))
+    (dolist (rc '("latexmkrc" ".latexmkrc"))
+      (when (file-readable-p (expand-file-name rc folder))
+        (with-temp-buffer
+          (insert-file-contents (expand-file-name rc folder))
+          (while (re-search-forward "^[ \t]*\\$\\(?:aux\\|out\\)_dir[ \t]*=[ \t]*[\"']\\([^\"'\n]+\\)[\"']" nil t)
+            (push (match-string 1) names)))))
+    (cl-remove-if-not #'file-directory-p (mapcar (lambda (name) (expand-file-name name folder)) names))))
+
+(defun bibtex-live--names (aux pattern)
+  "Whether the file AUX has the regular expression PATTERN."
+  (with-temp-buffer (insert-file-contents-literally aux) (re-search-forward pattern nil t)))
+
 (defun bibtex-live--guess ()
-  "The .aux file of this buffer: of its name, or the only one of its folder that names databases."
-  (let ((own (and buffer-file-name (concat (file-name-sans-extension buffer-file-name) ".aux"))))
-    (if (and own (string-match-p "\\.\\(aux\\|tex\\)\\'" buffer-file-name) (file-readable-p own))
-        own
-      (let ((found (cl-remove-if-not
-                    (lambda (file) (with-temp-buffer (insert-file-contents-literally file)
-                                                     (re-search-forward "^\\\\bibdata{" nil t)))
-                    (directory-files default-directory t "\\.aux\\'"))))
-        (and found (null (cdr found)) (car found))))))
+  "The .aux file of this buffer, or nil.
+It is that of its `% !TEX root', or of its name, or the newest one that names the file, or the newest one that names
+databases: in its folder, in an output folder of it, or in the folder above."
+  (let* ((case-fold-search t)
+         (here (expand-file-name default-directory))
+         (root (save-excursion
+                 (goto-char (point-min))
+                 (and (re-search-forward "^[ \t]*%[ \t]*!tex[ \t]+root[ \t]*=[ \t]*\\(.*[^ \t\n]\\)" 2000 t)
+                      (expand-file-name (match-string-no-properties 1)))))
+         (file (or root buffer-file-name ""))
+         (base (file-name-base file))
+         (found (sort (cl-remove-if-not
+                       (lambda (aux) (bibtex-live--names aux "^\\\\bibdata{"))
+                       (cl-mapcan (lambda (folder) (directory-files folder t "\\.aux\\'"))
+                                  (cl-mapcan #'bibtex-live--outputs
+                                             (if root (list (file-name-directory root))
+                                               (list here (file-name-directory (directory-file-name here)))))))
+                      #'file-newer-than-file-p)))
+    (or (and (string-match-p "\\.\\(aux\\|tex\\)\\'" file)
+             (cl-find base found :key #'file-name-base :test #'equal))
+        (cl-find-if (lambda (aux)
+                      (bibtex-live--names aux (concat "^\\\\\\(?:bibdata\\|bibstyle\\|@input\\){\\(?:[^}\n]*[,/]\\)?" (regexp-quote base)
+                                                      "\\(?:\\.[a-z]+\\)?[,}]")))
+                    found)
+        (car found))))
 
 (defun bibtex-live-view (view)
   "Show VIEW: `all' of the bibliography, the `entry' at point, or the `log'."

@@ -11,6 +11,7 @@
 -- bibtex-lsp on the PATH.
 --
 -- K shows what an entry prints, CTRL-X CTRL-O completes, and a line over each entry or function says what a run made of it.
+-- gf on a name in \bibliography or \include opens the file, and :BibtexFold folds each entry or function.
 -- :BibtexBibliography opens a window with the bibliography, which follows each change. In it, gd goes to the field that a
 -- byte comes from, and gy to the word of the style that wrote it. :BibtexLog opens one with the log of the run.
 
@@ -141,16 +142,30 @@ local function show(client)
   end
 end
 
+-- Fills them soon: diagnostics come for each open file, and the windows want one answer.
+local waiting = {} -- the clients whose windows are to be filled
+local function show_soon(client)
+  if waiting[client.id] then return end
+  waiting[client.id] = true
+  vim.schedule(function()
+    waiting[client.id] = nil
+    show(client)
+  end)
+end
+
 -- Opens a window that follows the answers to a request, and returns its client and its buffer.
-local function open(method)
+local function open(method, title)
   local client = client_here()
   if not client then return vim.notify('bibtex-lsp: open a file of the paper first', vim.log.levels.WARN) end
-  vim.cmd('botright 15new | wincmd p')
-  local buffer = vim.fn.bufnr('$')
-  windows[client.id] = vim.tbl_extend('force', windows[client.id] or {}, { [method] = buffer })
-  vim.bo[buffer].buftype = 'nofile'
+  local own = windows[client.id] or {}
+  if not own[method] or not vim.api.nvim_buf_is_valid(own[method]) then
+    own[method] = vim.api.nvim_create_buf(true, true)
+    vim.api.nvim_buf_set_name(own[method], ('[%s of %s %d]'):format(title, client.config.init_options.job or 'the paper', own[method]))
+  end
+  windows[client.id] = own
+  if vim.fn.bufwinnr(own[method]) < 0 then vim.cmd(('botright 15split | %dbuffer | wincmd p'):format(own[method])) end
   show(client)
-  return client, buffer
+  return client, own[method]
 end
 
 -- Notes the URI that a client has for a file, which has the database ../bib/b in it as the .aux file does.
@@ -159,16 +174,45 @@ local function learn(id, uri)
   if own ~= uri then names[id][own] = uri end
 end
 
--- Has a client send its own URIs.
+-- Opens the .tex files of the paper's folder, and of those in it, that mention the name under the cursor: a rename changes
+-- only open ones.
+local function open_mentions(client)
+  local line, column = vim.api.nvim_get_current_line(), vim.fn.col('.')
+  local name = line:sub(1, column):match('[^%s{},"=()#]*$') .. line:sub(column + 1):match('^[^%s{},"=()#]*')
+  for _, pattern in ipairs({ '/*.tex', '/*/*.tex' }) do
+    for _, file in ipairs(vim.fn.glob(client.config.root_dir .. pattern, true, true)) do
+      if vim.fn.bufloaded(file) == 0 and table.concat(vim.fn.readfile(file), '\n'):find(name, 1, true) then
+        local buffer = vim.fn.bufadd(file)
+        vim.fn.bufload(buffer)
+        vim.bo[buffer].buflisted = true
+      end
+    end
+  end
+end
+
+-- Has a client send its own URIs, and open what a rename should change.
 local function translate(client)
   names[client.id] = {}
   for _, way in ipairs({ 'request', 'notify' }) do
     local send = client.rpc[way]
     client.rpc[way] = function(method, params, ...)
+      if method == 'textDocument/rename' then open_mentions(client) end
       local document = type(params) == 'table' and params.textDocument
       local uri = document and names[client.id][document.uri]
       if uri then params = vim.tbl_deep_extend('force', params, { textDocument = { uri = uri } }) end
       return send(method, params, ...)
+    end
+  end
+end
+
+-- Saves the .aux files that a rename has changed. The server doesn't follow their buffers, and LaTeX writes them anew.
+local function save_renamed(client, found)
+  for _, change in ipairs(found and found.documentChanges or {}) do
+    local path = vim.uri_to_fname(change.textDocument.uri)
+    local buffer = vim.fn.bufnr('^' .. vim.fn.escape(path, '\\*?[]{},') .. '$')
+    if path:match('%.aux$') and buffer > 0 and vim.bo[buffer].modified and not client_of(buffer) then
+      vim.api.nvim_buf_call(buffer, function() vim.cmd('silent noautocmd write!') end)
+      client.notify('workspace/didChangeWatchedFiles', { changes = { { uri = change.textDocument.uri, type = 2 } } })
     end
   end
 end
@@ -204,11 +248,28 @@ local function watch(client, folders)
   end
 end
 
+local attach
+local crashed = -math.huge -- when a server ended last that wasn't told to
+
+-- Starts a client again whose server has ended, with its windows, unless another one ended within the last ten seconds.
+local function restart(id)
+  local is_first = vim.loop.now() - crashed > 10000
+  crashed = vim.loop.now()
+  if not is_first then return vim.notify('bibtex-lsp: the server has ended again; :edit starts it', vim.log.levels.WARN) end
+  for _, buffer in ipairs(vim.api.nvim_list_bufs()) do
+    if vim.b[buffer].bibtex_lsp == id and vim.api.nvim_buf_is_loaded(buffer) and not client_of(buffer) then
+      vim.api.nvim_buf_call(buffer, attach)
+      windows[vim.b[buffer].bibtex_lsp], windows[id] = windows[id] or windows[vim.b[buffer].bibtex_lsp], nil
+    end
+  end
+end
+
 -- The client of a paper, started if there is none.
 local function start(paper)
   local job = vim.g.bibtex_lsp_job or paper.job
   local key = job and paper.output .. '/' .. job or paper.folder
-  if clients[key] and not vim.lsp.client_is_stopped(clients[key]) then return clients[key] end
+  -- One that is still starting counts, too: `nvim -p` opens several files at once.
+  if clients[key] and vim.lsp.get_client_by_id(clients[key]) then return clients[key] end
   clients[key] = vim.lsp.start_client({
     name = 'bibtex-lsp',
     cmd = vim.list_extend({ vim.g.bibtex_lsp_program or 'bibtex-lsp', '--search=' .. paper.folder, '--search=' .. paper.output }, job and { '--job=' .. job } or {}),
@@ -219,19 +280,24 @@ local function start(paper)
       translate(client)
       watch(client, { [paper.folder] = true, [paper.output] = true })
     end,
-    on_exit = function(_, _, id)
+    on_exit = function(code, signal, id)
       for _, handle in ipairs(watches[id] or {}) do handle:close() end
       watches[id] = nil
+      if code ~= 0 or signal ~= 0 and signal ~= 15 then vim.schedule(function() restart(id) end) end
     end,
     handlers = {
       ['textDocument/definition'] = function(fault, found, context, settings)
         for _, place in ipairs(found and (found.uri and { found } or found) or {}) do learn(context.client_id, place.uri) end
         return vim.lsp.handlers['textDocument/definition'](fault, found, context, settings)
       end,
+      ['textDocument/rename'] = function(fault, found, context, settings)
+        vim.lsp.handlers['textDocument/rename'](fault, found, context, settings)
+        save_renamed(vim.lsp.get_client_by_id(context.client_id), found)
+      end,
       ['textDocument/publishDiagnostics'] = function(fault, found, context, settings)
         vim.lsp.diagnostic.on_publish_diagnostics(fault, found, context, settings)
         local client = vim.lsp.get_client_by_id(context.client_id)
-        if client then show(client) end
+        if client then show_soon(client) end
       end,
     },
   })
@@ -257,26 +323,52 @@ function _G.bibtex_lsp_complete(is_first, base)
     items = type(result) == 'table' and (result.items or result) or {}
     return beginning(vim.api.nvim_get_current_line():sub(1, vim.fn.col('.') - 1), items[1])
   end
-  local fitting = vim.tbl_filter(function(item)
-    local text = (item.label .. ' ' .. (item.filterText or '')):lower()
-    for word in base:lower():gmatch('%S+') do
-      if not text:find(word, 1, true) then return false end
-    end
-    return true
-  end, items)
+  local fitting, order = {}, {}
+  for place, item in ipairs(items) do
+    local text, fits = (item.label .. ' ' .. (item.filterText or '')):lower(), true
+    for word in base:lower():gmatch('%S+') do fits = fits and text:find(word, 1, true) end
+    if fits then table.insert(fitting, item) end
+    -- Names that begin so come first, then the server's order.
+    order[item] = ('%s%s %06d'):format(vim.startswith(text, base:lower()) and '0' or '1', item.sortText or '', place)
+  end
+  table.sort(fitting, function(a, b) return order[a] < order[b] end)
   return vim.tbl_map(function(item)
     local word = item.textEdit and item.textEdit.newText or item.insertText or item.label
     return { word = word, abbr = item.label, menu = item.detail, icase = 1, dup = 1 }
   end, fitting)
 end
 
-local attach
+-- The answer to a request about the present document, or nil.
+local function asked(method)
+  local client = client_of(0)
+  local answer = client and client.request_sync(method, { textDocument = vim.lsp.util.make_text_document_params() }, 2000, 0)
+  return answer and type(answer.result) == 'table' and answer.result or nil
+end
+
+-- Opens the file that is named under the cursor, or does what gf does. LaTeX takes the names in a chapter from the paper's
+-- folder.
+local function follow_link()
+  local at = vim.lsp.util.make_position_params().position
+  for _, link in ipairs(asked('textDocument/documentLink') or {}) do
+    if link.range.start.line == at.line and link.range.start.character <= at.character and at.character < link.range['end'].character then
+      local path = vim.uri_to_fname(link.target)
+      local inside = client_of(0).config.root_dir .. path:sub(#vim.fn.expand('%:p:h') + 1)
+      if vim.fn.filereadable(path) == 0 and vim.fn.filereadable(inside) == 1 then path = inside end
+      return vim.cmd('edit ' .. vim.fn.fnameescape(path))
+    end
+  end
+  local is_there, fault = pcall(vim.cmd, 'normal! gf')
+  if not is_there then vim.notify(fault:match('E%d+:.*') or fault, vim.log.levels.ERROR) end
+end
 
 -- What Neovim 0.7 doesn't set for a buffer with a server: its key for a hover, its completion, and when lenses are drawn.
 local function set_up(buffer)
   vim.api.nvim_buf_call(buffer, function()
     if vim.fn.maparg('K', 'n') == '' then vim.keymap.set('n', 'K', function() vim.lsp.buf.hover() end, { buffer = buffer, desc = 'bibtex-lsp: what it prints' }) end
   end)
+  if vim.bo[buffer].filetype:match('tex$') and vim.fn.maparg('gf', 'n') == '' then
+    vim.keymap.set('n', 'gf', follow_link, { buffer = buffer, desc = 'bibtex-lsp: the file of this name' })
+  end
   if vim.tbl_contains({ '', 'v:lua.vim.lsp.omnifunc' }, vim.bo[buffer].omnifunc) then vim.bo[buffer].omnifunc = 'v:lua.bibtex_lsp_complete' end
   local group = vim.api.nvim_create_augroup('bibtex_lsp_' .. buffer, {})
   vim.api.nvim_create_autocmd({ 'BufEnter', 'CursorHold', 'InsertLeave', 'TextChanged' }, {
@@ -319,6 +411,7 @@ attach = function()
   local own = client_of(buffer)
   if own and own.id ~= id then detach(buffer, own) end
   vim.lsp.buf_attach_client(buffer, id)
+  vim.b.bibtex_lsp = id
   set_up(buffer)
 end
 
@@ -347,11 +440,19 @@ vim.api.nvim_create_user_command('BibtexRoot', function(command)
 end, { nargs = '?', complete = 'file' })
 
 vim.api.nvim_create_user_command('BibtexBibliography', function()
-  local client, buffer = open('bibtex/bbl')
+  local client, buffer = open('bibtex/bbl', 'bibliography')
   if not client then return end
   vim.bo[buffer].filetype = 'tex'
   vim.keymap.set('n', 'gd', function() go(client, 'field') end, { buffer = buffer })
   vim.keymap.set('n', 'gy', function() go(client, 'word') end, { buffer = buffer })
 end, {})
 
-vim.api.nvim_create_user_command('BibtexLog', function() open('bibtex/log') end, {})
+vim.api.nvim_create_user_command('BibtexLog', function() open('bibtex/log', 'log') end, {})
+
+vim.api.nvim_create_user_command('BibtexFold', function()
+  vim.wo.foldmethod = 'manual'
+  vim.cmd('normal! zE')
+  for _, range in ipairs(asked('textDocument/foldingRange') or {}) do
+    vim.cmd(('%d,%dfold'):format(range.startLine + 1, range.endLine + 1))
+  end
+end, {})

@@ -1,5 +1,6 @@
-// Starts bibtex-lsp for the files of a paper, and shows its answers: messages, hover, definition, completion, symbols, code
-// lenses, and the bibliography and the log in documents that follow each letter. It uses nothing but VS Code and Node, so there is no build step.
+// Starts bibtex-lsp for the files of a paper, and shows its answers: messages, hover, definition, references, rename, completion,
+// symbols, layout, folding, links, code actions, code lenses, and the bibliography and the log in documents that follow each
+// letter. It uses nothing but VS Code and Node, so there is no build step.
 //
 // Each paper has one server. A file's paper is that of its `% !TEX root`, else the newest .aux file that names the file: in
 // the file's folder, in an output folder of it, or in the folder above. A file that no .aux file names joins the paper whose
@@ -91,7 +92,7 @@ class Server {
     this.child.stdout.on('data', bytes => this.receive(bytes));
     this.child.stderr.on('data', bytes => console.error(`bibtex-lsp: ${bytes}`));
     this.ready = this.ask('initialize', {
-      processId: process.pid, rootUri: vscode.Uri.file(paper.folder).toString(), capabilities: {}, initializationOptions: job ? { job } : {},
+      processId: process.pid, rootUri: vscode.Uri.file(paper.folder).toString(), capabilities: { textDocument: { publishDiagnostics: { relatedInformation: true } } }, initializationOptions: job ? { job } : {},
     }).then(() => this.note('initialized', {}));
   }
 
@@ -139,7 +140,9 @@ class Server {
       diagnostics.set(uriOf(message.params.uri), message.params.diagnostics.map(one => {
         const found = new vscode.Diagnostic(rangeOf(one.range), one.message, kinds[one.severity || 1]);
         found.source = one.source;
-      found.tags = one.tags; // 1 marks what is unnecessary, as in the protocol
+        found.tags = one.tags; // 1 marks what is unnecessary, as in the protocol
+        found.relatedInformation = (one.relatedInformation || []).map(({ message, location }) =>
+          new vscode.DiagnosticRelatedInformation(new vscode.Location(uriOf(location.uri), rangeOf(location.range)), message));
         return found;
       }));
       shown.changed(this);
@@ -205,14 +208,36 @@ async function serverOf(document) {
   return server;
 }
 
+// An answer about a document, or the error of the server.
+async function ask(document, method, params) {
+  const server = await serverOf(document);
+  return server.ask(method, { textDocument: { uri: server.name(document) }, ...params });
+}
+
+// An answer about a document, or null.
+const askOf = (document, method, params) => ask(document, method, params).catch(() => null);
+
 // An answer about a position of a document, or null.
-async function askAt(document, position, method) {
-  try {
-    const server = await serverOf(document);
-    return await server.ask(method, { textDocument: { uri: server.name(document) }, position });
-  } catch (_) {
-    return null;
+const askAt = (document, position, method) => askOf(document, method, { position });
+
+const editsOf = answer => (answer || []).map(one => new vscode.TextEdit(rangeOf(one.range), one.newText));
+
+// The change of several files in an answer.
+function changeOf(answer) {
+  const change = new vscode.WorkspaceEdit();
+  for (const { textDocument, edits } of answer.documentChanges) {
+    for (const one of edits) change.replace(uriOf(textDocument.uri), rangeOf(one.range), one.newText);
   }
+  return change;
+}
+
+// The file to which a link leads. LaTeX takes the names in a chapter from the paper's folder.
+async function targetOf(document, link) {
+  const target = uriOf(link.target);
+  if (fs.existsSync(target.fsPath)) return target;
+  const server = await serverOf(document);
+  const inside = path.join(server.paper.folder, path.relative(path.dirname(document.uri.fsPath), target.fsPath));
+  return fs.existsSync(inside) ? vscode.Uri.file(inside) : target;
 }
 
 // --- The bibliography and the log as documents ---
@@ -249,6 +274,21 @@ class Bibliography {
 }
 
 // --- VS Code ---
+
+// Opens the .tex files of the paper's folder, and of those in it, that mention the name at a position: a rename changes only
+// open ones.
+async function openMentions(document, position) {
+  const answer = await askAt(document, position, 'textDocument/prepareRename');
+  if (!answer) return;
+  const name = document.getText(rangeOf(answer));
+  const { folder } = (await serverOf(document)).paper;
+  const folders = fs.readdirSync(folder, { withFileTypes: true }).filter(one => one.isDirectory()).map(one => path.join(folder, one.name));
+  for (const place of [folder, ...folders]) {
+    for (const file of fs.readdirSync(place).filter(one => one.endsWith('.tex')).map(one => path.join(place, one))) {
+      if (fs.readFileSync(file, 'utf8').includes(name)) await serverOf(await vscode.workspace.openTextDocument(vscode.Uri.file(file)));
+    }
+  }
+}
 
 const WRITTEN = '*.{aux,bib,bst}';
 
@@ -343,11 +383,62 @@ function activate(context) {
         // VS Code counts kinds from 0, the protocol from 1.
         return items.map(one => Object.assign(new vscode.CompletionItem(one.label, (one.kind || 1) - 1), {
           detail: one.detail,
+          filterText: one.filterText,
+          sortText: one.sortText,
           documentation: one.documentation && new vscode.MarkdownString(one.documentation.value),
           range: one.textEdit && rangeOf(one.textEdit.range),
         }));
       },
-    }, '{', ','),
+    }, '{', ',', '@'),
+    vscode.languages.registerReferenceProvider(selector, {
+      async provideReferences(document, position, context) {
+        const answer = await askOf(document, 'textDocument/references', { position, context });
+        const server = answer && await serverOf(document);
+        return answer && answer.map(one => server.location(one));
+      },
+    }),
+    vscode.languages.registerRenameProvider(selector, {
+      async prepareRename(document, position) {
+        const answer = await ask(document, 'textDocument/prepareRename', { position });
+        if (!answer) throw new Error('nothing can be renamed here');
+        return rangeOf(answer);
+      },
+      async provideRenameEdits(document, position, newName) {
+        await openMentions(document, position);
+        const answer = await ask(document, 'textDocument/rename', { position, newName });
+        return answer && changeOf(answer);
+      },
+    }),
+    vscode.languages.registerDocumentFormattingEditProvider({ scheme: 'file', language: 'bibtex' }, {
+      provideDocumentFormattingEdits: async (document, options) => editsOf(await askOf(document, 'textDocument/formatting', { options })),
+    }),
+    vscode.languages.registerDocumentRangeFormattingEditProvider({ scheme: 'file', language: 'bibtex' }, {
+      provideDocumentRangeFormattingEdits: async (document, range, options) => editsOf(await askOf(document, 'textDocument/rangeFormatting', { range, options })),
+    }),
+    vscode.languages.registerFoldingRangeProvider(selector, {
+      async provideFoldingRanges(document) {
+        return (await askOf(document, 'textDocument/foldingRange') || []).map(one => new vscode.FoldingRange(one.startLine, one.endLine));
+      },
+    }),
+    vscode.languages.registerCodeActionsProvider(selector, {
+      async provideCodeActions(document, range) {
+        const answer = await askOf(document, 'textDocument/codeAction', { range, context: { diagnostics: [] } });
+        return (answer || []).map(one => Object.assign(new vscode.CodeAction(one.title, vscode.CodeActionKind.QuickFix), { edit: changeOf(one.edit) }));
+      },
+    }),
+    vscode.languages.registerDocumentLinkProvider(selector, {
+      async provideDocumentLinks(document) {
+        const answer = await askOf(document, 'textDocument/documentLink') || [];
+        return Promise.all(answer.map(async one => new vscode.DocumentLink(rangeOf(one.range), await targetOf(document, one))));
+      },
+    }),
+    vscode.languages.registerWorkspaceSymbolProvider({
+      async provideWorkspaceSymbols(query) {
+        const answers = await Promise.all([...servers.values()].map(async server => (await server.ask('workspace/symbol', { query }) || [])
+          .map(one => new vscode.SymbolInformation(one.name, (one.kind || 1) - 1, '', server.location(one.location)))));
+        return answers.flat();
+      },
+    }),
     vscode.languages.registerDocumentSymbolProvider(selector, {
       async provideDocumentSymbols(document) {
         const answer = await askAt(document, undefined, 'textDocument/documentSymbol');
