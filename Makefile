@@ -44,19 +44,20 @@ run:
 
 test:
 	@tools/kit
-	tools/gate
 	tests/sources
+	tools/gate
 	tests/together tests/memory \
 	  'tests/mutations $(CHECK_PROGRAM) $(PROGRAM) --count 300' \
 	  'tests/why $(WHY_PROGRAM)' \
 	  'tests/run $(PROGRAM) $(PROGRAM).by-rattle' \
 	  'tests/front $(JOB_PROGRAM) $(PROGRAM)' \
+	  tests/originals \
 	  'tests/check $(CHECK_PROGRAM)' \
-	  'tests/lsp $(LSP_PROGRAM)' \
 	  'tests/lsp $(LSP_PROGRAM) --random 40 1' \
+	  'tests/lsp $(LSP_PROGRAM)' \
 	  'tests/lsp $(LSP_PROGRAM) --broken 300 1' \
 	  'tests/lsp $(LSP_PROGRAM) --hostile' \
-	  tests/originals tests/random
+	  tests/random
 
 check:
 	@tools/kit

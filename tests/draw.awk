@@ -77,7 +77,7 @@ function answer(  i, j, alike, all) {
   collect("instructions")
   if (count) printf " A full run takes %s times as many instructions as with `bibtex`.", range(2)
   collect("memory")
-  if (count) printf " It needs %s times as much memory.", range(1)
+  if (count) printf " Dulshenko needs %s times as much memory.", range(1)
   collect("part")
   if (count) printf " A title edit takes %s times as long as a full run here.", range(2)
   print ""

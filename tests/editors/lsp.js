@@ -1,6 +1,7 @@
 // The session of tests/editors/lsp in Node: the extension of VS Code.
 'use strict';
 const fs = require('fs');
+const path = require('path');
 const { activate, deactivate, vscode, handlers, providers, commands, published, warnings, Document, check, wait } = require('./stand_in.js');
 
 (async () => {
@@ -58,6 +59,32 @@ const { activate, deactivate, vscode, handlers, providers, commands, published, 
   check('completion', items.some(one => one.label === 'neumann:games'), items);
   const place = await providers.definition.provideDefinition(paper, { line: 1, character: 10 });
   check('definition', place && place[0].uri.fsPath === document.uri.fsPath, place);
+  check('completion by a title', items.find(one => one.label === 'neumann:games').filterText.includes('Theory of Games'), items);
+  const uses = await providers.references.provideReferences(document, document.position(document.text.indexOf('neumann:games')), { includeDeclaration: true });
+  const ends = uses.map(one => path.basename(one.uri.fsPath)).sort();
+  check('references', ['cite.tex', 'library.bib', 'paper.aux'].every(name => ends.includes(name)), ends);
+  fs.mkdirSync('parts');
+  fs.writeFileSync('parts/closed.tex', '\\cite{neumann:games}\n\\input{parts/more}\n');
+  fs.writeFileSync('parts/more.tex', '\n');
+  const renamed = await providers.rename.provideRenameEdits(document, document.position(document.text.indexOf('neumann:games')), 'vn:44');
+  const changed = renamed.edits.map(one => path.basename(one.uri.fsPath)).sort();
+  check('rename, in a closed file too', ['cite.tex', 'closed.tex', 'library.bib', 'paper.aux'].every(name => changed.includes(name)), changed);
+  const refused = await providers.rename.provideRenameEdits(document, document.position(document.text.indexOf('neumann:games')), 'two words').catch(error => error.message);
+  check('a refused rename', refused === "this can't be a name", refused);
+  const part = new Document('parts/closed.tex', 'latex');
+  const links = await providers.links.provideDocumentLinks(part);
+  check('a link in a chapter', links.length === 1 && links[0].target.fsPath === path.resolve('parts/more.tex'), links);
+  const folds = await providers.folds.provideFoldingRanges(document);
+  check('folds', folds.some(one => one.start < one.end), folds);
+  check('symbols of the workspace', (await providers.names.provideWorkspaceSymbols('neum')).some(one => one.name === 'neumann:games'), null);
+  const lines = document.text.split('\n').length - 1;
+  document.change(document.text.length, 0, '@misc{a1, title = {x} year = 1}\n@misc{a2, title = {x},note={y}}\n');
+  const actions = await providers.actions.provideCodeActions(document, new vscode.Range(lines, 3, lines, 3));
+  check('code actions', actions.length === 1 && actions[0].title === 'Insert the missing comma' && actions[0].edit.edits[0].newText === ',', actions);
+  const whole = await providers.layout.provideDocumentFormattingEdits(document, {});
+  check('layout', whole.some(one => one.range.start.line === lines + 1), whole);
+  const some = await providers.part.provideDocumentRangeFormattingEdits(document, new vscode.Range(lines, 0, lines, 3), {});
+  check('layout of an entry', some.every(one => one.range.start.line === lines), some);
   await deactivate();
   console.log('done');
   process.exit(0);

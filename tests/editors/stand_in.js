@@ -23,6 +23,13 @@ const vscode = {
   Location: class { constructor(uri, range) { Object.assign(this, { uri, range }); } },
   CompletionItem: class { constructor(label, kind) { Object.assign(this, { label, kind }); } },
   CodeLens: class { constructor(range, command) { Object.assign(this, { range, command }); } },
+  TextEdit: class { constructor(range, newText) { Object.assign(this, { range, newText }); } },
+  WorkspaceEdit: class { constructor() { this.edits = []; } replace(uri, range, newText) { this.edits.push({ uri, range, newText }); } },
+  FoldingRange: class { constructor(start, end) { Object.assign(this, { start, end }); } },
+  CodeAction: class { constructor(title, kind) { Object.assign(this, { title, kind }); } }, CodeActionKind: { QuickFix: 'quickfix' },
+  DocumentLink: class { constructor(range, target) { Object.assign(this, { range, target }); } },
+  SymbolInformation: class { constructor(name, kind, container, location) { Object.assign(this, { name, kind, location }); } },
+  DiagnosticRelatedInformation: class { constructor(location, message) { Object.assign(this, { location, message }); } },
   DocumentSymbol: class { constructor(name, detail, kind, range) { Object.assign(this, { name, detail, kind, range }); } },
   languages: {
     setLanguageConfiguration: (_, rules) => { providers.rules = rules; return { dispose() {} }; },
@@ -30,6 +37,10 @@ const vscode = {
     registerHoverProvider: (_, p) => { providers.hover = p; }, registerDefinitionProvider: (s, p) => { providers[s.scheme ? 'field' : 'definition'] = p; },
     registerTypeDefinitionProvider: (_, p) => { providers.word = p; }, registerCodeLensProvider: (_, p) => { providers.lenses = p; },
     registerCompletionItemProvider: (_, p) => { providers.completion = p; }, registerDocumentSymbolProvider: (_, p) => { providers.symbols = p; },
+    registerReferenceProvider: (_, p) => { providers.references = p; }, registerRenameProvider: (_, p) => { providers.rename = p; },
+    registerDocumentFormattingEditProvider: (_, p) => { providers.layout = p; }, registerDocumentRangeFormattingEditProvider: (_, p) => { providers.part = p; },
+    registerFoldingRangeProvider: (_, p) => { providers.folds = p; }, registerCodeActionsProvider: (_, p) => { providers.actions = p; },
+    registerDocumentLinkProvider: (_, p) => { providers.links = p; }, registerWorkspaceSymbolProvider: p => { providers.names = p; },
   },
   workspace: {
     getConfiguration: () => ({ get: name => settings[name] }), textDocuments: [],
@@ -41,7 +52,12 @@ const vscode = {
       const watcher = pattern.base && fs.watch(pattern.base.fsPath, (_, name) => told.forEach(act => act(Uri.file(path.join(pattern.base.fsPath, name)))));
       return { onDidCreate() {}, onDidChange: act => told.push(act), onDidDelete() {}, dispose: () => watcher && watcher.close() };
     },
-    openTextDocument: async uri => uri,
+    openTextDocument: async uri => {
+      if (uri.scheme !== 'file') return uri;
+      const document = new Document(uri.fsPath, 'latex');
+      handlers.open(document);
+      return document;
+    },
   },
   RelativePattern: class { constructor(base, pattern) { Object.assign(this, { base, pattern }); } },
   window: { activeTextEditor: null, showQuickPick: async list => list.find(one => one.endsWith(vscode.picked)), showWarningMessage: words => { warnings.push(words); }, showTextDocument: async document => document },
@@ -53,7 +69,8 @@ const { activate, deactivate } = require(path.join(process.env.EDITORS, 'vscode/
 
 class Document {
   constructor(name, languageId) { Object.assign(this, { uri: Uri.file(path.resolve(name)), languageId, version: 1, text: fs.readFileSync(name, 'utf8') }); }
-  getText() { return this.text; }
+  getText(range) { return range ? this.text.slice(this.offset(range.start), this.offset(range.end)) : this.text; }
+  offset({ line, character }) { return this.text.split('\n').slice(0, line).reduce((sum, one) => sum + one.length + 1, 0) + character; }
   position(place) { const lines = this.text.slice(0, place).split('\n'); return { line: lines.length - 1, character: lines[lines.length - 1].length }; }
   change(place, length, text) {
     const [from, to] = [this.position(place), this.position(place + length)];
