@@ -1,5 +1,5 @@
 -- One more line of a header.
-use Rattle.std.proofs.Common.{◌≡◌, ◌<◌, ℕ, List, [], ◌∷◌, ◌++◌, length, length-append, take, drop, refl, ap, sym, subst, ◌∙◌, append_assoc, arith, Bool, true, false, ◌⊎◌, inl, inr, Option, None, Some}
+use Rattle.std.proofs.Common.{◌≡◌, ◌<◌, ℕ, List, [], ◌∷◌, ◌++◌, length, length-append, take, refl, ap, sym, subst, ◌∙◌, append_assoc, arith, Bool, true, false, ◌⊎◌, inl, inr, Option, None, Some}
 use Rattle.std.proofs.lemmas.Grind.{common_steps}
 use Rattle.std.specs.List.{fold, AllByRecursion}
 use Rattle.bt_streams.specs.Reads.{HasNoFeed}
@@ -55,10 +55,6 @@ pub long_more : (bytes line : List ℕ) (known : Option ℕ) (first : Bool) → 
     255 < length line → AreLines (bytes ++ (line ++ 10 ∷ [])) known false
 long_more bytes line known first a p q =
     subst (λ k. AreLines (bytes ++ (line ++ 10 ∷ [])) k false) (long_says known line q) (are_more bytes line known first a p (long_is_line line q))
-
--- what a buffer holds that was filled whole
-pub written_whole : (n : ℕ) (xs ys : List ℕ) → length xs ≡ n → take n (xs ++ drop (length xs) ys) ≡ xs
-written_whole n xs ys p = grind (arith, common_steps)
 
 -- a text is no shorter than its end
 pub longer : (front last : List ℕ) → 0 < length last → 0 < length (front ++ last)

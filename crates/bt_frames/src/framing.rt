@@ -97,7 +97,6 @@ fn drop_body<S: Source>(source: &mut S, count: usize) -> Result<Frame, StreamFai
     }
 }
 
-/// Reads a body into a buffer of its size.
 fn fill<S: Source>(source: &mut S, buffer: Vec<u8>) -> Result<Frame, StreamFailed>
     requires failures { (S.seen source.old).failures < 2 ^ 64 - 1 }
     requires fits { length buffer.items ≤ body_bytes }
@@ -114,7 +113,6 @@ fn fill<S: Source>(source: &mut S, buffer: Vec<u8>) -> Result<Frame, StreamFaile
     }
 }
 
-/// Reads a body of `count` bytes, or drops it.
 fn read_body<S: Source>(alloc: Global, source: &mut S, count: usize) -> Result<Frame, StreamFailed>
     requires { (S.seen source.old).failures < 2 ^ 64 - 1 }
     ensures body { IfOk result (ReadsBody (S.seen source.old).rest (S.seen source.new).rest count) }

@@ -5,7 +5,6 @@ ghost use Rattle.bt_frames.specs.Headers.{behind_spaces, length_of, without_cr, 
 
 use bt_streams::number;
 
-/// The text after its leading spaces.
 fn behind_spaces(text: &[u8]) -> &[u8]
     ensures { result.now ≡ behind_spaces text.now }
 {

@@ -1,8 +1,8 @@
 -- Reads, one after another.
-use Rattle.std.proofs.Common.{◌≡◌, ◌≢◌, ℕ, ◌+◌, ◌≤◌, List, [], ◌∷◌, ◌++◌, length, take, refl, ap, sym, ◌∙◌, append_assoc, Option, None, Some}
+use Rattle.std.proofs.Common.{◌≡◌, ◌≢◌, ℕ, ◌+◌, ◌≤◌, List, [], ◌∷◌, ◌++◌, length, take, ap, sym, ◌∙◌, append_assoc, Option, None, Some}
 use Rattle.std.proofs.lemmas.List.{length-take-le, take-append-le}
 use Rattle.std.proofs.Math.Seq.{take-append-add}
-use Rattle.std.specs.Io.KnownBytes.{Consumes, Keeps}
+use Rattle.std.specs.Io.KnownBytes.{Consumes}
 use Rattle.bt_streams.specs.Reads.{HasNoFeed}
 
 -- One read after another.
@@ -11,17 +11,6 @@ consumes_more None b c xs ys p q = tt
 consumes_more (Some u) None c xs ys p q = absurd p
 consumes_more (Some u) (Some v) None xs ys p q = absurd q
 consumes_more (Some u) (Some v) (Some w) xs ys p q = p ∙ ap (λ t. xs ++ t) q ∙ sym (append_assoc xs ys w)
-
--- Nothing was read.
-pub consumes_none : (a : Option (List ℕ)) → Consumes a a []
-consumes_none None = tt
-consumes_none (Some u) = refl
-
--- What a failed read leaves.
-pub consumes_kept : (a b : Option (List ℕ)) → Keeps a b → Consumes a b []
-consumes_kept None b p = tt
-consumes_kept (Some u) None p = absurd p
-consumes_kept (Some u) (Some v) p = sym p
 
 -- One more byte of a line.
 pub no_feed_more : (xs : List ℕ) (b : ℕ) → HasNoFeed xs → b ≢ 10 → HasNoFeed (xs ++ b ∷ [])
