@@ -1,26 +1,11 @@
--- Texts, lines and what steps left without their marks.
-use Rattle.std.specs.Prelude.{ℕ, Bool, List, [], ◌∷◌, ◌++◌, Option, map, option_map, Vec}
-use Rattle.std.specs.declared.alloc.Global.{Global}
+-- What steps left without their marks.
+use Rattle.std.specs.Prelude.{ℕ, Bool, List, [], ◌∷◌, ◌++◌, Option, map, option_map}
 use Rattle.bt_log.specs.declared.message.Message.{Message}
 use Rattle.bt_actions.specs.declared.entry.Variables as plain
 use Rattle.bt_machine.specs.declared.outcome.Outcome.{Outcome}
-use Rattle.bt_why.specs.declared.texts.Marked.{Marked}
-use Rattle.bt_why.specs.declared.lines.Written.{Written}
+use Rattle.bt_marks.specs.Bytes.{text_bytes, line_bytes, lines_bytes}
 use Rattle.bt_why.specs.declared.values.Variables.{Variables}
 use Rattle.bt_why.specs.declared.rerun.Rerun.{Rerun}
-
--- the bytes of a text
-abbrev pub text_bytes : List Marked → List ℕ
-text_bytes text = map (λ m. m.byte) text
-
--- the bytes of a line
-abbrev pub line_bytes : List Written → List ℕ
-line_bytes line = map (λ w. w.marked.byte) line
-
--- lines, each with a line feed after it
-abbrev pub lines_bytes : List (Vec Written Global) → List ℕ
-lines_bytes [] = []
-lines_bytes (line ∷ lines) = line_bytes line.items ++ 10 ∷ lines_bytes lines
 
 -- variables
 abbrev pub plain_variables : Variables → plain.Variables

@@ -6,23 +6,15 @@ use Rattle.bt_style.specs.declared.builtin.Builtin.{Builtin}
 use Rattle.std.specs.Char.{to_ascii_lowercase}
 use Rattle.bt_words.specs.Constants.{constant_at}
 use Rattle.bt_why.specs.declared.machine.Machine.{Machine}
-use Rattle.bt_why.specs.declared.marks.Mark.{Mark}
-use Rattle.bt_why.specs.declared.marks.Marks.{Marks}
-use Rattle.bt_why.specs.declared.marks.Site.{Site}
-use Rattle.bt_why.specs.declared.marks.Source.{Source}
-use Rattle.bt_why.specs.declared.marks.Source.TheVariants.{Literal, Quote, Field, Key, «Type» as Kind, Preamble, Indent, Made, Added, Put}
-use Rattle.bt_why.specs.declared.lines.Written.{Written}
+use Rattle.bt_marks.specs.declared.marks.Mark.{Mark}
+use Rattle.bt_marks.specs.Places.{mark_at, step_at}
+use Rattle.bt_marks.specs.declared.marks.Site.{Site}
+use Rattle.bt_marks.specs.declared.marks.Source.{Source}
+use Rattle.bt_marks.specs.declared.marks.Source.TheVariants.{Literal, Quote, Field, Key, «Type» as Kind, Preamble, Indent, Made, Added, Put}
+use Rattle.bt_marks.specs.declared.lines.Written.{Written}
 use Rattle.bt_why.specs.declared.rerun.Rerun.{Rerun}
 
--- the mark of a number
-abbrev pub mark_at : Machine → ℕ → Option Mark
-mark_at m number = slice_get m.marks.marks.items number
-
--- the step in which a word ran
-abbrev pub step_at : Marks → Site → Option ℕ
-step_at marks site = option_map (λ call. call.step) (slice_get marks.calls.items site.call)
-
--- the entry of that step
+-- the entry of the step in which a word ran
 abbrev pub entry_at : Machine → Site → Option Entry
 entry_at m site =
     option_and_then (λ p. slice_get m.entries.now p) (option_and_then (λ step. slice_index_or m.step_entries.items step None) (step_at m.marks site))
@@ -55,14 +47,14 @@ is_byte_of true named byte = nat_eq byte 32 || nat_eq (to_ascii_lowercase byte) 
 -- built-in function added. The truth value says whether one has changed it on the way.
 pub data IsRight (m : Machine) (byte at : ℕ) : Bool → ℕ → Type 0 where
   -- the place that the mark names has the byte
-  Named : (made : Bool) (number : ℕ) (mark : Mark) (text : List ℕ) (named : ℕ) → mark_at m number ≡ Some mark →
+  Named : (made : Bool) (number : ℕ) (mark : Mark) (text : List ℕ) (named : ℕ) → mark_at m.marks number ≡ Some mark →
       text_named m mark.site mark.source ≡ Some text → slice_get text at ≡ Some named →
       is_byte_of made named byte ≡ true → IsRight m byte at made number
   -- a built-in function made it of what another mark names
-  Changed : (made : Bool) (number : ℕ) (mark : Mark) (by : Builtin) (of : ℕ) → mark_at m number ≡ Some mark →
+  Changed : (made : Bool) (number : ℕ) (mark : Mark) (by : Builtin) (of : ℕ) → mark_at m.marks number ≡ Some mark →
       mark.source ≡ Made by of → IsRight m byte at true of → IsRight m byte at made number
   -- a built-in function added it
-  Supplied : (made : Bool) (number : ℕ) (mark : Mark) → mark_at m number ≡ Some mark → is_added mark.source ≡ true →
+  Supplied : (made : Bool) (number : ℕ) (mark : Mark) → mark_at m.marks number ≡ Some mark → is_added mark.source ≡ true →
       IsRight m byte at made number
 
 -- every byte of a line is right

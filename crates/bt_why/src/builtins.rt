@@ -1,13 +1,12 @@
 //! The built-in functions on numbers and texts, and those that write.
 
-use crate::alignment::{Maker, aligned};
-use crate::formatting::formatted;
-use crate::lines::{Written, break_lines, end_line};
 use crate::machine::Machine;
-use crate::marks::Source;
-use crate::texts::{Marked, Text, joined, of_mark, part};
 use crate::values::{Kind, Value};
 use bt_actions::{Complaint, Flow};
+use bt_marks::{
+    Maker, Marked, Source, Text, Written, aligned, break_lines, end_line, formatted, joined,
+    of_mark, part,
+};
 use bt_names::{FormatFault, count, format};
 use bt_style::Builtin;
 use bt_text::{

@@ -3,11 +3,9 @@
 //! It does what the style machine does, value by value and message by message, and isn't written for speed. What is proved
 //! of a step is proved of `bt_machine`; a user of this crate compares the two.
 
-use crate::lines::Line;
-use crate::marks::{Marks, Site, Source};
-use crate::texts::{Marked, Text, bytes_of, of_mark};
 use crate::values::{Block, Code, Kind, Value, Variables};
 use bt_actions::{Complaint, Entry, Flow, STACK_LIMIT, TICK_LIMIT};
+use bt_marks::{Line, Marked, Marks, Site, Source, Text, bytes_of, of_mark};
 use bt_style::{Builtin, Style, Target};
 use bt_text::{Bytes, Shared, TEXT_BYTES};
 use bt_words::Program;

@@ -3,11 +3,9 @@
 ghost use Rattle.std.specs.Prelude.{◌≡◌, false, IsTrue, IsNone, option_and_then, option_copied, slice_get};
 ghost use Rattle.bt_why.specs.Named.{AreRight, IsLineRight, IsRight, entry_at, is_byte_of, text_named};
 
-use crate::lines::{Line, Written};
 use crate::machine::Machine;
-use crate::marks::{Mark, Source};
-use crate::texts::Marked;
 use bt_actions::Entry;
+use bt_marks::{Line, Mark, Marked, Source, Written};
 
 /// Whether a byte is another one, or what a built-in function makes of it.
 fn is_byte_of(is_made: bool, named: u8, byte: u8) -> bool

@@ -1,9 +1,9 @@
 //! What fields, variables and the entry push, assignment, and the functions that only move values.
 
 use crate::machine::Machine;
-use crate::marks::Source;
 use crate::values::{Kind, Value, Variables};
 use bt_actions::{Complaint, Flow, STACK_LIMIT};
+use bt_marks::Source;
 use bt_style::{Builtin, Target};
 use std::alloc::AllocError;
 

@@ -1,16 +1,16 @@
 //! What a step left when it was run with marks, and whether it is what the style machine left.
 
 ghost use Rattle.std.specs.Prelude.{◌≡◌, ◌++◌, map, option_map, IfOk, IsTrue};
-ghost use Rattle.bt_why.specs.Erased.{effect_of, line_bytes, lines_bytes, plain_variables, rerun_effect, steps_bytes, text_bytes};
+ghost use Rattle.bt_marks.specs.Bytes.{line_bytes, lines_bytes, text_bytes};
+ghost use Rattle.bt_why.specs.Erased.{effect_of, plain_variables, rerun_effect, steps_bytes};
 ghost use Rattle.bt_why.specs.Named.{AllRight, AreRight};
 
-use crate::lines::{Line, line_bytes, lines_bytes};
 use crate::machine::{Left, Machine};
-use crate::texts::{Text, bytes_of};
 use crate::values::Variables;
 use bt_actions::messages;
 use bt_log::{Message, Said};
 use bt_machine::Outcome;
+use bt_marks::{Line, Text, bytes_of, line_bytes, lines_bytes};
 use bt_text::{Bytes, Sequence, Shared, Values, are_same, equal_bytes, shared_all};
 use std::alloc::{AllocError, Global};
 

@@ -1,9 +1,9 @@
 //! The loop that runs a step.
 
 use crate::machine::{Frame, Machine};
-use crate::marks::{Site, Source};
 use crate::values::{Block, Code, Kind, Value};
 use bt_actions::{Complaint, Flow};
+use bt_marks::{Site, Source};
 use bt_style::{Builtin, Target};
 use bt_words::{Act, Word};
 use std::alloc::AllocError;

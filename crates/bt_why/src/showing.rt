@@ -1,9 +1,9 @@
 //! The functions that log values, and the table of all built-in functions.
 
 use crate::machine::Machine;
-use crate::marks::Source;
 use crate::values::Value;
 use bt_actions::{Complaint, Flow};
+use bt_marks::Source;
 use bt_style::{Builtin, Style, Target};
 use bt_text::Bytes;
 use itoa::Buffer;

@@ -1,6 +1,6 @@
 //! Values on the stack, kinds of arguments, and variables.
 
-use crate::texts::Text;
+use bt_marks::Text;
 use bt_style::Target;
 use bt_text::Shared;
 use std::alloc::{AllocError, Global};

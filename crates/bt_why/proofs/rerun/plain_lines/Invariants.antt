@@ -1,5 +1,5 @@
 use Rattle.std.proofs.Common.{◌≡◌, map, take}
-use Rattle.bt_why.specs.Erased.{line_bytes}
+use Rattle.bt_marks.specs.Bytes.{line_bytes}
 use Rattle.bt_why.proofs.rerun.plain_lines.Given as goal
 
 abbrev pub invariant-lines : goal.invariant-lines

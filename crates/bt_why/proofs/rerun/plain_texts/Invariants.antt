@@ -1,5 +1,5 @@
 use Rattle.std.proofs.Common.{◌≡◌, map, take}
-use Rattle.bt_why.specs.Erased.{text_bytes}
+use Rattle.bt_marks.specs.Bytes.{text_bytes}
 use Rattle.bt_why.proofs.rerun.plain_texts.Given as goal
 
 abbrev pub invariant-texts : goal.invariant-texts

@@ -1,7 +1,7 @@
 use Rattle.std.proofs.Common.{◌≡◌, List, arith, ap, ◌∙◌, take, subst}
 use Rattle.std.proofs.lemmas.Grind.{common_steps}
 use Rattle.std.proofs.lemmas.List.Elements.{All-more}
-use Rattle.bt_why.specs.declared.lines.Written.{Written}
+use Rattle.bt_marks.specs.declared.lines.Written.{Written}
 use Rattle.bt_why.specs.Named.{AreRight, IsLineRight}
 use Rattle.bt_why.proofs.machine.Machine.wrong_line.Goals as goal
 

@@ -4,7 +4,7 @@
 //! function here says in its contract which bytes its result has; they are those that the unmarked function gives.
 
 ghost use Rattle.std.specs.Prelude.{◌≡◌, ◌++◌, take, drop, IfOk};
-ghost use Rattle.bt_why.specs.Erased.{text_bytes};
+ghost use Rattle.bt_marks.specs.Bytes.{text_bytes};
 
 use bt_text::Bytes;
 use std::alloc::{AllocError, Global};
@@ -22,7 +22,7 @@ pub struct Marked {
 /// A text whose bytes are marked.
 pub type Text = Vec<Marked>;
 
-/// A text without its marks.
+/// The bytes of a text, without its marks. The only error is out of memory.
 pub fn bytes_of(alloc: Global, text: &[Marked]) -> Result<Bytes, AllocError>
     ensures { IfOk result (λ bytes. bytes ≡ text_bytes text.now) }
 {
@@ -33,7 +33,7 @@ pub fn bytes_of(alloc: Global, text: &[Marked]) -> Result<Bytes, AllocError>
     Ok(Bytes::from_vec(bytes))
 }
 
-/// A text all of which comes from one place.
+/// A text of these bytes, all with one mark. The only error is out of memory.
 pub fn of_mark(alloc: Global, bytes: &[u8], mark: usize) -> Result<Text, AllocError>
     ensures { IfOk result (λ text. text_bytes text.items ≡ bytes.now) }
 {
@@ -49,7 +49,7 @@ pub fn of_mark(alloc: Global, bytes: &[u8], mark: usize) -> Result<Text, AllocEr
     Ok(text)
 }
 
-/// Two texts, one after the other.
+/// Two texts, one after the other. The only error is out of memory.
 pub fn joined(alloc: Global, first: &[Marked], second: &[Marked]) -> Result<Text, AllocError>
     ensures { IfOk result (λ text. text.items ≡ first.now ++ second.now) }
 {
@@ -70,7 +70,7 @@ fn front(text: &[Marked], count: usize) -> &[Marked]
     text.get(..count).unwrap_or(text)
 }
 
-/// The part of a text that begins at a place, as far as it is there.
+/// The part of a text from a place on: `count` bytes, or fewer at the end. The only error is out of memory.
 pub fn part(alloc: Global, text: &[Marked], from: usize, count: usize) -> Result<Text, AllocError>
     ensures { IfOk result (λ part. part.items ≡ take count (drop from text.now)) }
 {

@@ -1,6 +1,6 @@
 use Rattle.std.proofs.Common.{◌≡◌, take}
-use Rattle.bt_why.specs.Erased.{text_bytes}
-use Rattle.bt_why.proofs.texts.of_mark.Given as goal
+use Rattle.bt_marks.specs.Bytes.{text_bytes}
+use Rattle.bt_marks.proofs.alignment.aligned.Given as goal
 
 abbrev pub invariant-bytes : goal.invariant-bytes
 invariant-bytes l = text_bytes l.text.items ≡ take l.byte-index l.bytes

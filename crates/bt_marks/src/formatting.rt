@@ -5,7 +5,7 @@
 //! list, so only that name is searched.
 
 ghost use Rattle.std.specs.Prelude.{◌≡◌, IfOk};
-ghost use Rattle.bt_why.specs.Erased.{text_bytes};
+ghost use Rattle.bt_marks.specs.Bytes.{text_bytes};
 
 use crate::alignment::{Maker, first_mark};
 use crate::marks::{Marks, Source};
@@ -117,7 +117,8 @@ fn marked_at(name: &[Marked], place: Option<usize>) -> Option<&Marked> {
     name.get(place?)
 }
 
-/// The bytes of a formatted name, with their marks.
+/// The bytes that `format.name$` made of one name of a list, numbered from 1, with their marks. New marks are added to
+/// `marks`. The only error is out of memory; then some may have been added.
 pub fn formatted(
     alloc: Global,
     marks: &mut Marks,

@@ -1,7 +1,7 @@
 //! Lines of the output, and how long ones are broken.
 
 ghost use Rattle.std.specs.Prelude.{◌≡◌, ◌++◌, ◌∷◌, [], IfOk, OnOk};
-ghost use Rattle.bt_why.specs.Erased.{line_bytes, lines_bytes};
+ghost use Rattle.bt_marks.specs.Bytes.{line_bytes, lines_bytes};
 
 use crate::texts::Marked;
 use bt_text::{Bytes, is_white};
@@ -87,7 +87,8 @@ fn put(held: &mut Line, place: usize, space: Written) {
 }
 
 /// Breaks lines off what is held, as long as it is too long. `space` is what a line begins with after a break, twice: it
-/// overwrites the white space at the break and the byte before, which is in a line by then.
+/// overwrites the white space at the break and the byte before, which is in a line by then. The only error is out of memory;
+/// then `held` and `lines` may be changed in part.
 pub fn break_lines(
     alloc: Global,
     held: &mut Line,
@@ -112,7 +113,7 @@ pub fn break_lines(
     Ok(())
 }
 
-/// Ends the line that is held.
+/// Ends the line that is held. The only error is out of memory; then nothing is changed.
 pub fn end_line(alloc: Global, held: &mut Line, lines: &mut Vec<Line>) -> Result<(), AllocError> {
     if held.is_empty() {
         lines.push(Vec::new(alloc))?;
@@ -123,7 +124,7 @@ pub fn end_line(alloc: Global, held: &mut Line, lines: &mut Vec<Line>) -> Result
     Ok(())
 }
 
-/// A line without its marks.
+/// The bytes of a line, without its marks. The only error is out of memory.
 pub fn line_bytes(alloc: Global, line: &[Written]) -> Result<Bytes, AllocError>
     ensures { IfOk result (λ bytes. bytes ≡ line_bytes line.now) }
 {
@@ -141,7 +142,7 @@ fn add_line(alloc: Global, text: &mut Bytes, line: &[Written]) -> Result<(), All
     text.append(b"\n")
 }
 
-/// Lines without their marks, each with a line feed after it.
+/// The bytes of lines, each with a line feed after it. The only error is out of memory.
 pub fn lines_bytes(alloc: Global, lines: &[Line]) -> Result<Bytes, AllocError>
     ensures { IfOk result (λ text. text ≡ lines_bytes lines.now) }
 {

@@ -6,7 +6,7 @@
 //! never a byte that isn't there.
 
 ghost use Rattle.std.specs.Prelude.{◌≡◌, IfOk};
-ghost use Rattle.bt_why.specs.Erased.{text_bytes};
+ghost use Rattle.bt_marks.specs.Bytes.{text_bytes};
 
 use crate::marks::{Marks, Site, Source};
 use crate::texts::{Marked, Text};
@@ -133,7 +133,8 @@ impl Walk {
     }
 }
 
-/// The bytes that a built-in function made of an argument, with their marks.
+/// The bytes that a built-in function made of an argument, with their marks. New marks are added to `marks`. The only error
+/// is out of memory; then some may have been added.
 pub fn aligned(
     alloc: Global,
     marks: &mut Marks,

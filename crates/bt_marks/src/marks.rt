@@ -1,7 +1,7 @@
 //! Marks: where the bytes of texts come from, and which words of the style put them there.
 
 ghost use Rattle.std.specs.Prelude.{◌≡◌, slice_get};
-ghost use Rattle.bt_why.specs.Named.{step_at};
+ghost use Rattle.bt_marks.specs.Places.{mark_at, step_at};
 
 use bt_style::Builtin;
 use std::alloc::{AllocError, Global};
@@ -19,6 +19,7 @@ pub enum Source {
     Key,
     /// The type of the step's entry.
     Type,
+    /// What `preamble$` pushes.
     Preamble,
     /// The space before a line that was broken off.
     Indent,
@@ -63,6 +64,7 @@ pub struct Marks {
 }
 
 impl Marks {
+    /// No marks and no calls. Allocates nothing.
     pub fn new(alloc: Global) -> Marks {
         Marks {
             marks: Vec::new(alloc),
@@ -70,14 +72,14 @@ impl Marks {
         }
     }
 
-    /// Notes a mark, and returns its number.
+    /// Notes a mark, and returns its number. The only error is out of memory; then nothing is noted.
     pub fn note(&mut self, source: Source, site: Site) -> Result<usize, AllocError> {
         let number = self.marks.len();
         self.marks.push(Mark { source, site })?;
         Ok(number)
     }
 
-    /// Notes a call, and returns its number.
+    /// Notes a call, and returns its number. The only error is out of memory; then nothing is noted.
     pub fn enter(
         &mut self,
         function: Option<usize>,
@@ -93,19 +95,21 @@ impl Marks {
         Ok(number)
     }
 
+    /// The mark of this number; none if there is none.
     pub fn mark(&self, number: usize) -> Option<Mark>
-        ensures { result ≡ slice_get self.now.marks.items number }
+        ensures { result ≡ mark_at self.now number }
     {
         self.marks.get(number).copied()
     }
 
+    /// The call of this number; none if there is none.
     pub fn call(&self, number: usize) -> Option<Call>
         ensures { result ≡ slice_get self.now.calls.items number }
     {
         self.calls.get(number).copied()
     }
 
-    /// The step in which a word ran.
+    /// The step in which a word ran; none if its call isn't noted.
     pub fn step(&self, site: Site) -> Option<usize>
         ensures { result ≡ step_at self.now site }
     {
@@ -116,7 +120,8 @@ impl Marks {
         self.mark(number?)
     }
 
-    /// The mark of what built-in functions made the bytes of a mark of; none if they made them of a number.
+    /// The mark from whose bytes built-in functions made the bytes of this mark, the mark itself if none did. None if they
+    /// made the bytes from a number.
     pub fn root(&self, number: usize) -> Option<usize> {
         let mut number = number;
         for _ in 0..self.marks.len() {
@@ -129,7 +134,8 @@ impl Marks {
         None
     }
 
-    /// The built-in functions through which the bytes of a mark went, the last one first.
+    /// The built-in functions through which the bytes of a mark went, each once, the last one first. The only error is out
+    /// of memory.
     pub fn makers(&self, alloc: Global, number: usize) -> Result<Vec<Builtin>, AllocError> {
         let mut makers = Vec::new(alloc);
         let mut next = Some(number);
@@ -151,7 +157,8 @@ impl Marks {
         Ok(makers)
     }
 
-    /// The calls of functions in which a word ran, the innermost first, each with the line that ran in it.
+    /// The functions in whose calls a word ran, the innermost first, each with the line that ran in it. The only error is
+    /// out of memory.
     pub fn calls_of(&self, alloc: Global, site: Site) -> Result<Vec<(usize, usize)>, AllocError> {
         let mut calls = Vec::new(alloc);
         let mut site = site;

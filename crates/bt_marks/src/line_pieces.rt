@@ -91,7 +91,8 @@ impl Piece {
     }
 }
 
-/// The pieces of a line. Unless `is_exact`, what a built-in function left of a field and what it changed are one piece.
+/// The pieces of a line, in order. Unless `is_exact`, what a built-in function left of a field and what it changed are one
+/// piece. The only error is out of memory.
 pub fn pieces(
     alloc: Global,
     marks: &Marks,
