@@ -17,12 +17,22 @@ fn differs(ours: Option<bool>, theirs: Option<bool>) -> bool {
     ours.is_some() && theirs.is_some() && ours != theirs
 }
 
-#[derive(Drop)]
 pub struct Facts {
     /// The values of which something is known, in their order.
     values: Vec<Value>,
     known: Vec<Known>,
     pub assumed: Vec<Assumed>,
+}
+
+/// Written out, since a function that drops facts by one call is proved sooner than one that drops each part.
+impl Drop for Facts {
+    fn drop(self) {
+        let Facts {
+            values: _values,
+            known: _known,
+            assumed: _assumed,
+        } = self;
+    }
 }
 
 /// What is known on two paths that meet.

@@ -340,6 +340,25 @@ fn uses_with(
     uses
 }
 
+/// Lints a style with its words, and the functions that are types of entries.
+fn lint_program(
+    alloc: Global,
+    style: &Style,
+    text: &[u8],
+    program: &Program,
+    types: &[usize],
+) -> Result<Vec<Hint>, AllocError> {
+    let uses = uses_with(alloc, style, program, types)?;
+    let mut linter = Linter {
+        alloc,
+        style,
+        text,
+        hints: Vec::new(alloc),
+    };
+    linter.all(program, &uses)?;
+    Ok(linter.hints)
+}
+
 /// Lints a style that this text spells, which was checked. The one error is out of memory.
 pub fn lint(
     alloc: Global,
@@ -348,13 +367,7 @@ pub fn lint(
     findings: &Findings,
 ) -> Result<Vec<Hint>, AllocError> {
     let program = Program::of(alloc, style, text)?;
-    let uses = uses_with(alloc, style, &program, findings.types.as_slice())?;
-    let mut linter = Linter {
-        alloc,
-        style,
-        text,
-        hints: Vec::new(alloc),
-    };
-    linter.all(&program, &uses)?;
-    Ok(linter.hints)
+    let hints = lint_program(alloc, style, text, &program, findings.types.as_slice());
+    drop(program);
+    hints
 }

@@ -86,26 +86,24 @@ impl<'a> Checker<'a> {
     pub fn push_constant(
         &mut self,
         act: Act,
-        mut state: State,
+        state: State,
         next: &mut Vec<State>,
     ) -> Result<(), AllocError> {
         let value = self.constant(act)?;
-        state.push(value)?;
-        Ok(next.push(state)?)
+        state.push_to(value, next)
     }
 
     pub fn push_held(
         &mut self,
         target: Target,
-        mut state: State,
+        state: State,
         next: &mut Vec<State>,
     ) -> Result<(), AllocError> {
         if self.is_outside(target) {
             return self.tell_outside(b"a field or variable of entries", &state.facts);
         }
         let value = self.held(&state, target)?;
-        state.push(value)?;
-        Ok(next.push(state)?)
+        state.push_to(value, next)
     }
 
     pub fn push_basic(

@@ -5,13 +5,23 @@ use crate::values::{Value, Values};
 use bt_known::INTEGER;
 use std::alloc::{AllocError, Global};
 
-#[derive(Drop)]
 pub struct State {
     /// The literal stack, its top last.
     pub stack: Vec<Value>,
     /// What each variable holds, by its place.
     pub variables: Vec<Value>,
     pub facts: Facts,
+}
+
+/// Written out, as for `Facts`.
+impl Drop for State {
+    fn drop(self) {
+        let State {
+            stack: _stack,
+            variables: _variables,
+            facts: _facts,
+        } = self;
+    }
 }
 
 /// A value that is above 0 on the first of two paths only.
@@ -38,6 +48,12 @@ impl State {
 
     pub fn push(&mut self, value: Value) -> Result<(), AllocError> {
         Ok(self.stack.push(value)?)
+    }
+
+    /// Pushes a value, and adds the state to others.
+    pub fn push_to(mut self, value: Value, next: &mut Vec<State>) -> Result<(), AllocError> {
+        self.push(value)?;
+        Ok(next.push(self)?)
     }
 
     pub fn depth(&self) -> usize {

@@ -52,28 +52,27 @@ impl<'a> Checker<'a> {
         })
     }
 
-    fn variables(&self) -> Result<Vec<Target>, AllocError> {
-        let mut variables = Vec::new(self.alloc);
-        for place in 0..self.style.entry_numbers.len() {
-            variables.push(Target::EntryNumber(place))?;
+    /// The variable of a place.
+    fn variable_at(&self, place: usize) -> Target {
+        let texts = self.style.entry_numbers.len();
+        let globals = texts.saturating_add(self.style.entry_texts.len());
+        let global_texts = globals.saturating_add(self.style.global_numbers.len());
+        if place < texts {
+            Target::EntryNumber(place)
+        } else if place < globals {
+            Target::EntryText(place.saturating_sub(texts))
+        } else if place < global_texts {
+            Target::GlobalNumber(place.saturating_sub(globals))
+        } else {
+            Target::GlobalText(place.saturating_sub(global_texts))
         }
-        for place in 0..self.style.entry_texts.len() {
-            variables.push(Target::EntryText(place))?;
-        }
-        for place in 0..self.style.global_numbers.len() {
-            variables.push(Target::GlobalNumber(place))?;
-        }
-        for place in 0..self.style.global_texts.len() {
-            variables.push(Target::GlobalText(place))?;
-        }
-        Ok(variables)
     }
 
     /// The constants before the first step: all global variables but the two limits are 0 or empty.
     fn first_constants(&self) -> Result<Constants, AllocError> {
         let mut constants = Vec::new(self.alloc);
-        for target in self.variables()? {
-            constants.push(match target {
+        for place in 0..self.variable_count() {
+            constants.push(match self.variable_at(place) {
                 Target::GlobalNumber(place) if place > 1 => Some(ZERO),
                 Target::GlobalText(_) => Some(EMPTY),
                 _ => None,
@@ -84,11 +83,10 @@ impl<'a> Checker<'a> {
 
     fn first_variables(&mut self, constants: &[Option<Value>]) -> Result<Vec<Value>, AllocError> {
         let mut variables = Vec::new(self.alloc);
-        let targets = self.variables()?;
-        for (place, target) in targets.iter().enumerate() {
+        for place in 0..self.variable_count() {
             let value = match (
                 constants.get(place).copied().unwrap_or(None),
-                self.variable(*target),
+                self.variable(self.variable_at(place)),
             ) {
                 (Some(value), _) => value,
                 (None, Some((place, kinds))) => self

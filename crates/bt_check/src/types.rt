@@ -44,11 +44,7 @@ pub struct Mentions {
 }
 
 pub fn marks(alloc: Global, count: usize) -> Result<Vec<bool>, AllocError> {
-    let mut marks = Vec::new(alloc);
-    for _ in 0..count {
-        marks.push(false)?;
-    }
-    Ok(marks)
+    Ok(vec![in alloc; false; count]?)
 }
 
 pub fn is_marked(marks: &[bool], place: usize) -> bool {
@@ -137,10 +133,7 @@ fn with_own_fields(
     style: &Style,
     mentions: &[Mentions],
 ) -> Result<Vec<bool>, AllocError> {
-    let mut readers = Vec::new(alloc);
-    for _ in 0..style.fields.len() {
-        readers.push(Readers::None)?;
-    }
+    let mut readers = vec![in alloc; Readers::None; style.fields.len()]?;
     for (function, one) in mentions.iter().enumerate() {
         for field in &one.fields {
             if let Some(readers) = readers.get_mut(*field) {
