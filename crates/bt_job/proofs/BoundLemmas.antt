@@ -119,7 +119,7 @@ new_by files before name true true false (Some text) is_a is_t none = record { t
 pub length_lines : (files : List File) (level : ℕ) (name t : List ℕ) → text_of files name ≡ Some t → length (lines_of files level name) ≡ count t
 length_lines files level name t there = ap (λ o. length (lines_in level name o)) there ∙ length-map (aux_lines t) (λ item. record { level = level; file = name; item = item })
 
-no_or : (o p : Option LineFault) → option_or o p ≡ None → o ≡ None
+pub no_or : (o p : Option LineFault) → option_or o p ≡ None → o ≡ None
 no_or None p h = refl
 no_or (Some f) p h = h
 

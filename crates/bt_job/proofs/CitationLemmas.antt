@@ -11,7 +11,7 @@ use Rattle.bt_job.specs.declared.files.File.{File}
 use Rattle.bt_job.specs.declared.citations.Citations.{Citations}
 use Rattle.bt_job.specs.declared.progress.Progress.{Progress}
 use Rattle.bt_text.specs.NameList.{is_among}
-use Rattle.bt_job.specs.FileNames.{text_of, with_name}
+use Rattle.bt_job.specs.FileNames.{is_aux, text_of, with_name}
 use Rattle.bt_job.specs.Lines.{JobLine, lines_of, first_with, cited, job_lines}
 use Rattle.bt_job.specs.inner.Queue.{read_on, line_count, read_all}
 use Rattle.bt_job.specs.Citations.{is_star, keys_of, star_of, databases, styles, messages, file_line, missing_of, lacks, asked_by, citations, told_missing}
@@ -20,7 +20,7 @@ use Rattle.bt_job.specs.inner.LineEffects.{told, meeting}
 use Rattle.bt_job.specs.inner.NestedFiles.{file_taken, nothing_met, is_empty, missing_one, ended, rooted, asked_for}
 use Rattle.bt_job.proofs.NameLemmas.{bytes_differ}
 use Rattle.bt_job.proofs.EndingLemmas.{aux_ends, aux_not_base}
-use Rattle.bt_job.proofs.FileLemmas.{is_base, is_aux}
+use Rattle.bt_job.proofs.FileLemmas.{is_base}
 use Rattle.bt_job.proofs.LineLemmas.{Holds}
 use Rattle.bt_job.proofs.BoundLemmas.{job_lines_queue, weight_all, unopened_all, read_end}
 use Rattle.bt_job.proofs.ReadLemmas.{file_reaches}

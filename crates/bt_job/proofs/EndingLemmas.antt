@@ -3,9 +3,9 @@ use Rattle.std.specs.Prelude.{codes}
 use Rattle.std.specs.Str.{bytes_eq}
 use Rattle.std.proofs.Math.Seq.{drop-append_seam}
 use Rattle.std.proofs.Common.{◌≡◌, ℕ, ◌-◌, Bool, true, false, cond, List, [], ◌∷◌, ◌++◌, length, drop, length-append, refl, sym, ap, ◌∙◌, arith}
-use Rattle.bt_job.specs.FileNames.{with_ending}
+use Rattle.bt_job.specs.FileNames.{is_aux, with_ending}
 use Rattle.bt_job.proofs.NameLemmas.{same_bytes}
-use Rattle.bt_job.proofs.FileLemmas.{is_base, is_aux}
+use Rattle.bt_job.proofs.FileLemmas.{is_base}
 
 -- the last four bytes
 end_of : (name : List ℕ) (a b c d : ℕ) → drop (length (name ++ a ∷ b ∷ c ∷ d ∷ []) - 4) (name ++ a ∷ b ∷ c ∷ d ∷ []) ≡ a ∷ b ∷ c ∷ d ∷ []

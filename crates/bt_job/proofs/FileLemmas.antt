@@ -17,7 +17,7 @@ use Rattle.bt_job.specs.declared.progress.Progress.{Progress}
 use Rattle.bt_job.specs.declared.progress.Outcome.{Outcome}
 use Rattle.bt_job.specs.declared.progress.Outcome.TheVariants.{Taken, Wrong, Opens}
 use Rattle.bt_text.specs.NameList.{is_among}
-use Rattle.bt_job.specs.FileNames.{is_file_name, text_of, with_ending, with_name}
+use Rattle.bt_job.specs.FileNames.{is_aux, is_file_name, text_of, with_ending, with_name}
 use Rattle.bt_job.specs.Faults.{LineFault, WrongFile, IllEnded, said, database_fault, style_fault, input_fault, right_parts}
 use Rattle.bt_job.specs.Lines.{database_names, argument_fault}
 use Rattle.bt_job.specs.Citations.{missed}
@@ -26,12 +26,9 @@ use Rattle.bt_job.specs.inner.LineEffects.{told, meeting, looked_up, unless_misn
 use Rattle.bt_job.proofs.NameLemmas.{or_false, is_among-append, same_bytes, bytes_differ}
 use Rattle.bt_job.proofs.PartLemmas.{outcome_of, end_outcome, right_wrong, right_more, first_wrong, first_more}
 
--- a name that ends in `.bib`, and one in `.aux`
+-- a name that ends in `.bib`
 abbrev pub is_base : List ℕ → Bool
 is_base name = ends_with eqb name (codes ".bib")
-
-abbrev pub is_aux : List ℕ → Bool
-is_aux name = ends_with eqb name (codes ".aux")
 
 -- A name, given the tests that it passes
 

@@ -10,7 +10,7 @@ use Rattle.bt_job.specs.declared.files.File.{File}
 use Rattle.bt_job.specs.declared.progress.Progress.{Progress}
 use Rattle.bt_job.specs.declared.progress.Outcome.TheVariants.{Taken}
 use Rattle.bt_text.specs.NameList.{is_among}
-use Rattle.bt_job.specs.FileNames.{with_ending, with_name}
+use Rattle.bt_job.specs.FileNames.{is_aux, with_ending, with_name}
 use Rattle.bt_job.specs.inner.Cases.{lines_opened}
 use Rattle.bt_job.specs.Faults.{LineFault, SecondCommand, IllEnded, style_fault, input_fault, right_parts}
 use Rattle.bt_job.specs.Lines.{JobLine, lines_of, first_with, style_names, input_names, argument_fault, unless_second, line_fault}
@@ -18,7 +18,7 @@ use Rattle.bt_job.specs.Citations.{keys_of, star_of, missed, messages}
 use Rattle.bt_job.specs.inner.LineEffects.{named, going_on, item_taken}
 use Rattle.bt_job.proofs.PartLemmas.{end_outcome, right_wrong, right_more, first_wrong, first_more}
 use Rattle.bt_job.proofs.EndingLemmas.{base_not_aux}
-use Rattle.bt_job.proofs.FileLemmas.{is_aux, is_input, IsStyled, one_styled, IsInput, one_input}
+use Rattle.bt_job.proofs.FileLemmas.{is_input, IsStyled, one_styled, IsInput, one_input}
 use Rattle.bt_job.proofs.WholeLemmas.{IsWhole, IsPartedAs}
 use Rattle.bt_job.proofs.LineLemmas.{line_at, Holds, Steps, same_first, same_cited, same_inputs, more_inputs, fault_of_line, opens_nothing, opens_wrong}
 use Rattle.bt_job.proofs.StepLemmas.{item_is, bases_of, styles_of, again_first, now_first, spoken, sought, unsought, citation_steps, database_steps}

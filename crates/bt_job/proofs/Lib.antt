@@ -6,6 +6,7 @@ pub mod FileLemmas
 pub mod FileStepLemmas
 pub mod FitLemmas
 pub mod LineLemmas
+pub mod LookupLemmas
 pub mod NameLemmas
 pub mod NameTableLemmas
 pub mod NestLemmas

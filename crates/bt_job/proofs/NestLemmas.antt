@@ -1,6 +1,6 @@
 -- If what a line opens comes directly after it, a queue of lines and nested lines give the same.
 use Rattle.std.specs.Prelude.{fold}
-use Rattle.std.proofs.Common.{◌≡◌, ℕ, zero, suc, ◌+◌, ◌≤◌, List, [], ◌∷◌, ◌++◌, length, append_assoc, append-nil, refl, sym, ap, ◌∙◌, arith}
+use Rattle.std.proofs.Common.{◌≡◌, ℕ, zero, suc, ◌≤◌, List, [], ◌∷◌, ◌++◌, refl, sym, ap, ◌∙◌, arith}
 
 unfoldable pub nested : {A : Type 0} → (List A → A → List A) → ℕ → List A → A → List A
 nested opened zero before line = before ++ line ∷ []

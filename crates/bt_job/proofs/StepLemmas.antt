@@ -12,14 +12,14 @@ use Rattle.bt_job.specs.declared.files.File.{File}
 use Rattle.bt_job.specs.declared.progress.Progress.{Progress}
 use Rattle.bt_job.specs.declared.progress.Outcome.TheVariants.{Wrong}
 use Rattle.bt_text.specs.NameList.{is_among}
-use Rattle.bt_job.specs.FileNames.{is_file_name, with_name}
+use Rattle.bt_job.specs.FileNames.{is_aux, is_file_name, with_name}
 use Rattle.bt_job.specs.Lines.{line_parts, JobLine, has_command, first_with, cited, database_names, style_names, argument_fault, unless_second, line_fault}
 use Rattle.bt_job.specs.Faults.{LineFault, SecondCommand, key_fault, database_fault, style_fault, right_parts}
 use Rattle.bt_job.specs.Citations.{keys_of, star_of, missed, wanted, line_messages, messages}
 use Rattle.bt_job.specs.inner.LineEffects.{parts_taken, is_second, second_words, command_met, item_taken}
 use Rattle.bt_job.proofs.CitedLemmas.{cited_to, all_cited}
 use Rattle.bt_job.proofs.EndingLemmas.{base_ends, aux_not_base}
-use Rattle.bt_job.proofs.FileLemmas.{is_base, is_aux, is_input, based_to, all_based}
+use Rattle.bt_job.proofs.FileLemmas.{is_base, is_input, based_to, all_based}
 use Rattle.bt_job.proofs.LineLemmas.{line_at, Holds, Steps, same_first, new_first, some_more, same_cited, more_cited, same_inputs, more_messages, more_wanted, fault_of_line, opens_nothing, opens_wrong, cited_missed}
 
 -- a line that counts, whether or not it is the second of its command

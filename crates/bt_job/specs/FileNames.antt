@@ -22,6 +22,10 @@ abbrev pub is_file_name : List ℕ → Bool
 is_file_name name =
     nat_le 1 (length name) && nat_le (length name) file_name_size_limit && list_all is_file_name_byte name
 
+-- whether a name is an .aux file's
+abbrev pub is_aux : List ℕ → Bool
+is_aux name = ends_with eqb name (codes ".aux")
+
 -- the text of the file with this name, if there is such a file
 abbrev pub text_of : List File → List ℕ → Option (List ℕ)
 text_of [] name = None

@@ -1,2 +1,3 @@
 -- Only laws need these.
+pub mod ByAux
 pub mod Lines

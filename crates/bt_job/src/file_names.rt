@@ -7,7 +7,7 @@
 ghost use Rattle.std.specs.Prelude.{◌≡◌, IfOk};
 ghost use Rattle.std.specs.List.{list_all};
 ghost use Rattle.std.specs.Option.{option_map};
-ghost use Rattle.bt_job.specs.FileNames.{is_file_name_byte, is_file_name, with_ending, file_name_of, text_of};
+ghost use Rattle.bt_job.specs.FileNames.{is_aux, is_file_name_byte, is_file_name, with_ending, file_name_of, text_of};
 ghost use Rattle.bt_job.specs.inner.FileNames.{has_ending, met_before, name_fault};
 
 use crate::files::File;
@@ -80,11 +80,18 @@ pub fn file_name_of(alloc: Global, command: Command, part: &[u8]) -> Result<Byte
     }
 }
 
+/// Whether a name ends as that of an `.aux` file.
+pub fn is_aux(name: &[u8]) -> bool
+    ensures { result ≡ is_aux name.now }
+{
+    name.ends_with(b".aux")
+}
+
 fn has_ending(command: Command, name: &[u8]) -> bool
     ensures { result ≡ has_ending command name.now }
 {
     match command {
-        Command::Nested => name.ends_with(b".aux"),
+        Command::Nested => is_aux(name),
         Command::Database | Command::Style | Command::Citation => true,
     }
 }

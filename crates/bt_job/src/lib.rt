@@ -1,6 +1,7 @@
 //! A job of BibTeX: its files, its log, and what its `.aux` files ask for.
 #![tactic(auto)]
 
+mod asked;
 mod aux_texts;
 mod citations;
 mod file_names;

@@ -156,5 +156,6 @@ pub fn read_citations(
     let file = Shared::new(alloc, Bytes::of(alloc, &[root, b".aux"])?)?;
     let mut reader = Reader::new(alloc);
     reader.read_root(files, known, &file)?;
-    Ok(reader.into_citations())
+    let asked = reader.into_citations()?;
+    Ok(asked)
 }

@@ -3,7 +3,7 @@
 //! Contracts are only about `progress`. The tables merely speed up look-ups in its two lists of file names; only `meet`
 //! and `want` change them, each together with its list.
 
-ghost use Rattle.std.specs.Prelude.{◌≡◌, OnOk, OnErr};
+ghost use Rattle.std.specs.Prelude.{◌≡◌, IfOk, OnOk, OnErr};
 ghost use Rattle.bt_text.specs.NameList.{is_among};
 ghost use Rattle.bt_job.specs.inner.NameTable.{Mirrors};
 ghost use Rattle.bt_job.specs.inner.LineEffects.{told, logged_at, meeting, wanting};
@@ -51,26 +51,17 @@ impl Reader {
         }
     }
 
-    pub fn into_citations(self) -> Citations
-        ensures { result ≡ asked_for self.progress }
+    /// The result. The only error is out of memory.
+    pub fn into_citations(self) -> Result<Citations, AllocError>
+        ensures { IfOk result (λ asked. asked ≡ asked_for self.progress) }
     {
-        let Progress {
-            keys,
-            star,
-            databases,
-            style,
-            log,
-            wanted,
+        let Reader {
+            alloc,
+            progress,
             ..
-        } = self.progress;
-        Citations {
-            keys,
-            star,
-            databases,
-            style,
-            log,
-            wanted,
-        }
+        } = self;
+        let asked = progress.into_citations(alloc)?;
+        Ok(asked)
     }
 
     /// Appends a message. The only error is out of memory; nothing is logged then.

@@ -9,11 +9,11 @@ use Rattle.bt_job.proofs.nested_files.read_citations.Goals as goal
 pub returns-clause-value : goal.returns-clause-value
 returns-clause-value c =
     let file = c.args.root.now ++ codes ".aux" in
-    let value : c.into_citations.result ≡ asked_for (rooted c.args.files.now file (text_of c.args.files.now file)) = search rules in
+    let value : c.in_ok-asked.asked ≡ asked_for (rooted c.args.files.now file (text_of c.args.files.now file)) = search rules in
     value ∙ citations_are c.args.files.now c.args.root.now
 
 pub returns-clause-fit : goal.returns-clause-fit
 returns-clause-fit c =
     let file = c.args.root.now ++ codes ".aux" in
-    let value : c.into_citations.result ≡ asked_for (rooted c.args.files.now file (text_of c.args.files.now file)) = search rules in
-    reads_fit c.args.files.now c.args.root.now c.into_citations.result (value ∙ citations_are c.args.files.now c.args.root.now)
+    let value : c.in_ok-asked.asked ≡ asked_for (rooted c.args.files.now file (text_of c.args.files.now file)) = search rules in
+    reads_fit c.args.files.now c.args.root.now c.in_ok-asked.asked (value ∙ citations_are c.args.files.now c.args.root.now)
