@@ -4,12 +4,13 @@ use Rattle.std.specs.Prelude.{◌==◌, ◌||◌, not, cond, slice_get, filter, 
 use Rattle.std.specs.List.{AllByRecursion, cons_option}
 use Rattle.std.proofs.lemmas.Bool.Decides.{Decides-eqb, nat_tests}
 use Rattle.std.proofs.lemmas.List.{length-map}
+use Rattle.bt_resolve.specs.declared.asked.Asked.{Asked}
 use Rattle.bt_resolve.specs.declared.stored.Stored.{Stored}
 use Rattle.bt_resolve.specs.declared.entry.Entry.{Entry}
 use Rattle.bt_resolve.specs.Listed.{listed}
 use Rattle.bt_resolve.specs.Inherited.{inherited, values_after, is_left_out, entry_seen, entries_seen}
 use Rattle.bt_resolve.specs.inner.Cases.{values_of, parent_at, inherits, entry_at}
-use Rattle.bt_resolve.specs.Skeletons.{skeleton, AreAlike, heir_if, is_heir, DifferAt, Heir, Changed, Inherits, HeirsInherit, shown, SeenAsShown, HeirsAloneChange, is_within, SpanDiffers, has_parent, OthersInheritNothing}
+use Rattle.bt_resolve.specs.Skeletons.{skeleton, AreAlike, heir_if, is_heir, DifferAt, Heir, Changed, Inherits, HeirsInherit, shown, seen_at, SeenAsShown, HeirsAloneChange, is_within, SpanDiffers, has_parent, OthersInheritNothing}
 use Rattle.bt_resolve.proofs.FieldLemmas.{or_false}
 use Rattle.bt_resolve.proofs.BelowLemmas.{listed_stored}
 use Rattle.bt_resolve.proofs.SkeletonLemmas.{one_list, same_parent}
@@ -94,13 +95,15 @@ get_shown f [] h k = refl
 get_shown f (p ∷ ps) h zero = first_some (f p) (filter_map f ps) h.0
 get_shown f (p ∷ ps) h (suc k) = next_some (f p) (filter_map f ps) k h.0 ∙ get_shown f ps h.1 k
 
+pub shown_seen : (a : Asked) (min : ℕ) (stored : List Stored) → AllByRecursion (λ p. is_some (seen_at a min stored p) ≡ true) (shown a min stored)
+shown_seen a min stored =
+    let values = values_after stored (reverse (listed a stored)) in
+    some_shown (entry_at a min stored values) (length stored) (λ p. not (is_left_out a min stored p)) (listed a stored)
+    (λ p below. some_mapped (entry_seen a min stored (values p)) (slice_get stored p) (some_at stored p below)) (listed_stored a stored)
+
 pub seen_as_shown : SeenAsShown
 unfolding entries_seen
-seen_as_shown a min stored k =
-    let values = values_after stored (reverse (listed a stored)) in
-    get_shown (entry_at a min stored values) (shown a min stored)
-    (some_shown (entry_at a min stored values) (length stored) (λ p. not (is_left_out a min stored p)) (listed a stored)
-    (λ p below. some_mapped (entry_seen a min stored (values p)) (slice_get stored p) (some_at stored p below)) (listed_stored a stored)) k
+seen_as_shown a min stored k = get_shown (seen_at a min stored) (shown a min stored) (shown_seen a min stored) k
 
 -- ---- spans
 

@@ -34,11 +34,11 @@ same_place : (vs : List Values) (k : ℕ) (parent : Option ℕ) → get_or (inhe
 same_place vs k None = refl
 same_place vs k (Some parent) = set_at_length vs k (get_or vs parent []) (lt_or_le k (length vs))
 
-other_place : (vs : List Values) (q k : ℕ) (parent : Option ℕ) → k ≢ q → get_or (inherits_from parent q vs) k [] ≡ get_or vs k []
+pub other_place : (vs : List Values) (q k : ℕ) (parent : Option ℕ) → k ≢ q → get_or (inherits_from parent q vs) k [] ≡ get_or vs k []
 other_place vs q k None other = refl
 other_place vs q k (Some parent) other = get_or-set_other vs q k (inherited (get_or vs q []) (get_or vs parent [])) [] other
 
-at_test : (stored : List Stored) (vs : List Values) (q k : ℕ) (b : Bool) → (q == k) ≡ b → get_or (inherits_at stored vs q) k [] ≡ inherits b (parent_at stored k) (λ j. get_or vs j []) k
+pub at_test : (stored : List Stored) (vs : List Values) (q k : ℕ) (b : Bool) → (q == k) ≡ b → get_or (inherits_at stored vs q) k [] ≡ inherits b (parent_at stored k) (λ j. get_or vs j []) k
 at_test stored vs q k true is =
     let same : q ≡ k = (Decides-eqb q k).0 is in
     ap (λ (p : ℕ). get_or (inherits_at stored vs p) k []) same ∙ same_place vs k (parent_at stored k)

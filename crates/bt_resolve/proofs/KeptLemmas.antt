@@ -1,7 +1,7 @@
 -- What an edit of one entry makes of a kept resolution.
-use Rattle.std.proofs.Common.{◌≡◌, ◌≢◌, ◌∙◌, ap, sym, refl, subst, append_assoc, ℕ, suc, ◌+◌, ◌-◌, ◌<◌, ◌≤◌, Bool, true, false, IsTrue, List, [], ◌∷◌, ◌++◌, length, map, take, drop, reverse, get_or, Option, Some, None, arith}
-use Rattle.std.specs.Prelude.{IfSome, slice_get, option_and_then}
-use Rattle.std.proofs.lemmas.List.{drop-drop, length-map, reverse-append, take-append-drop, take_rest}
+use Rattle.std.proofs.Common.{◌≡◌, ◌∙◌, ap, sym, refl, subst, append_assoc, ℕ, ◌+◌, ◌-◌, ◌<◌, ◌≤◌, IsTrue, List, [], ◌∷◌, ◌++◌, length, map, take, drop, reverse, get_or, Option, Some, None, arith}
+use Rattle.std.specs.Prelude.{IfSome, slice_get}
+use Rattle.std.proofs.lemmas.List.{length-map, take_rest}
 use Rattle.std.proofs.lemmas.Option.{slice_get_read, slice_get_within}
 use Rattle.bt_bib.specs.Boundaries.{moved_piece}
 use Rattle.bt_bib.specs.Items.{PlacedItem, items_of}
@@ -23,32 +23,32 @@ use Rattle.bt_resolve.specs.declared.kept.ResolvedEdit.{ResolvedEdit}
 use Rattle.bt_resolve.specs.declared.question.Question.{Question}
 use Rattle.bt_resolve.specs.declared.reading.Reach.{Reach}
 use Rattle.bt_resolve.specs.declared.seen_edit.SeenEdit.{SeenEdit}
-use Rattle.bt_resolve.specs.declared.seen_edit.SeenEdit.TheVariants.{Same, Other}
+use Rattle.bt_resolve.specs.declared.seen_edit.SeenEdit.TheVariants.{Others}
 use Rattle.bt_resolve.specs.declared.span.Span.{Span}
 use Rattle.bt_resolve.specs.declared.stored.Stored.{Stored}
 use Rattle.bt_resolve.specs.Edited.{Edit, databases_before, databases_after, items_before, number_of, stored_by, stored_first, told_by}
 use Rattle.bt_resolve.specs.Inherited.{entries_seen}
 use Rattle.bt_resolve.specs.Macros.{macro_before}
 use Rattle.bt_resolve.specs.Resolved.{all_items, messages, preamble, resolved, stored_entries}
-use Rattle.bt_resolve.specs.Skeletons.{skeleton, AreInPlace, is_within, placed_from, seen_at, shown}
-use Rattle.bt_resolve.specs.inner.Cases.{is_referred_to}
-use Rattle.bt_resolve.specs.inner.Databases.{State, after_items, after_databases, nothing_read, resolved_of}
-use Rattle.bt_resolve.specs.inner.Kept.{AreKept, IsAround, IsEditOf, IsEntryEdit, IsFound, IsResolvedEdit, IsSeenEdit, IsShort, IsSpanEdit, IsWithin, NoStrings, asked_by, items_in, macros_behind, mark_of, reaches_for, replaced, resolved_for, span_by, stored_for, with_database, with_seen}
+use Rattle.bt_resolve.specs.Skeletons.{skeleton, AreAlike, AreInPlace, shown}
+use Rattle.bt_resolve.specs.Listed.{listed}
+use Rattle.bt_resolve.specs.inner.Inheritance.{values_read}
+use Rattle.bt_resolve.specs.inner.Databases.{DefineNothing, State, after_items, after_databases, nothing_read, resolved_of}
+use Rattle.bt_resolve.specs.inner.Kept.{AreAhead, AreKept, IsAround, IsEditOf, IsFound, IsNewSpan, IsPlace, IsResolvedEdit, IsSeenEdit, IsShort, IsSpanEdit, IsSpared, IsWithin, asked_by, items_in, macros_ahead, macros_behind, mark_of, new_values, other_entries, reaches_for, replaced, resolved_for, stored_for, with_database, with_own, with_seen}
 use Rattle.bt_resolve.specs.inner.Patches.{patched}
+use Rattle.bt_resolve.specs.Values.{MacroTexts}
 use Rattle.bt_resolve.specs.inner.Reaches.{database_reaches}
 use Rattle.bt_resolve.specs.inner.Spans.{span_of}
-use Rattle.bt_resolve.proofs.AloneLemmas.{one_set, same_list}
-use Rattle.bt_resolve.proofs.EditedLemmas.{edit_is_patched, items_split}
-use Rattle.bt_resolve.proofs.EntryPatchLemmas.{EntryPatched, entry_patched, nothing_patched, one_within}
-use Rattle.bt_resolve.proofs.HeirLemmas.{seen_as_shown}
-use Rattle.bt_resolve.proofs.ItemsEditLemmas.{in_three, items_append, items_moved}
+use Rattle.bt_resolve.proofs.AheadLemmas.{macros_kept}
+use Rattle.bt_resolve.proofs.EditedLemmas.{edit_is_patched}
+use Rattle.bt_resolve.proofs.HeirEditLemmas.{OnePatched, entries_now as others_now, entry_patched, nothing_patched, stays_now}
+use Rattle.bt_resolve.proofs.ItemsEditLemmas.{in_three}
 use Rattle.bt_resolve.proofs.KeptParts.{parts_of, set_parts, ask, macros, fronts, backs, edit, behind_fronts, items_were, items_are, number_is, at_start, at_first, start_stands, first_stands, told_before, told_past, told_to_last, stored_before, mark_stored, mark_told}
-use Rattle.bt_resolve.proofs.MarkLemmas.{macros_stay, span_is}
+use Rattle.bt_resolve.proofs.MarkLemmas.{span_is}
 use Rattle.bt_resolve.proofs.PatchLemmas.{messages_patched}
 use Rattle.bt_resolve.proofs.PlacingLemmas.{all_add, resolved_is, stored_is}
-use Rattle.bt_resolve.proofs.PlainLemmas.{no_strings_both}
 use Rattle.bt_resolve.proofs.ReachLemmas.{GoOn, AllGoOn, itself_beside, macros_beside, stored_beside, pieces_moved, pieces_same, go_on_both, span_beside, one_database}
-use Rattle.bt_resolve.proofs.SkeletonLemmas.{same_referred}
+use Rattle.bt_resolve.proofs.SkeletonLemmas.{one_list}
 
 -- ---- what the style sees
 
@@ -64,54 +64,7 @@ seen_preamble : (q : Question) → (resolved_for q).preamble ≡ preamble q.decl
 unfolding resolved
 seen_preamble q = refl
 
--- ---- the entry that changes
-
-not_within : (p r : ℕ) (b : Bool) → is_within p 1 r ≡ b → r ≢ p → b ≡ false
-not_within p r true is other = absurd (other (one_within p r is))
-not_within p r false is other = refl
-
--- at other places than that of p the same is seen
-same_at : (a : Asked) (min p : ℕ) (values : List (Option (List ℕ))) (stored others : List Stored) (i : ℕ) (o : Option ℕ) → EntryPatched a min p values stored others → slice_get (shown a min stored) i ≡ o → o ≢ Some p →
-    slice_get (entries_seen a min others) i ≡ slice_get (entries_seen a min stored) i
-same_at a min p values stored others i None one at other =
-    seen_as_shown a min others i
-    ∙ ap (λ (ps : List ℕ). option_and_then (seen_at a min others) (slice_get ps i)) (sym one.places)
-    ∙ ap (option_and_then (seen_at a min others)) at
-    ∙ sym (ap (option_and_then (seen_at a min stored)) at)
-    ∙ sym (seen_as_shown a min stored i)
-same_at a min p values stored others i (Some r) one at other =
-    let apart : r ≢ p = λ (same : r ≡ p). other (ap (λ (n : ℕ). Some n) same) in
-    one.same i r at (not_within p r (is_within p 1 r) refl apart)
-
-entries_by_edit : (a : Asked) (min p : ℕ) (values : List (Option (List ℕ))) (stored others : List Stored) (made : SeenEdit) → EntryPatched a min p values stored others →
-    IsEntryEdit a p (shown a min stored) (entries_seen a min stored) values made →
-    IsWithin made (length (entries_seen a min stored)) × (entries_seen a min others ≡ with_seen made (entries_seen a min stored))
-entries_by_edit a min p values stored others Same one nowhere = (
-  tt,
-  same_list (entries_seen a min others) (entries_seen a min stored) (λ i. same_at a min p values stored others i (slice_get (shown a min stored) i) one refl (elsewhere i)),
-)
-  where
-    elsewhere : (i : ℕ) → slice_get (shown a min stored) i ≢ Some p
-    elsewhere i = λ (at : slice_get (shown a min stored) i ≡ Some p). nowhere i (slice_get_within (shown a min stored) i p at) at
-entries_by_edit a min p values stored others (Other k seen) one is =
-    let less = slice_get_within (entries_seen a min stored) k is.old is.here in
-    let there = one.changes k is.old is.only.at is.here ∙ ap (λ (e : Entry). Some e) (sym is.is) in (
-      less,
-      one_set (entries_seen a min stored) (entries_seen a min others) k seen less there (λ i other. same_at a min p values stored others i (slice_get (shown a min stored) i) one refl (elsewhere i other)),
-    )
-  where
-    elsewhere : (i : ℕ) → k ≢ i → slice_get (shown a min stored) i ≢ Some p
-    elsewhere i other = λ (at : slice_get (shown a min stored) i ≡ Some p). is.only.others i (slice_get_within (shown a min stored) i p at) other at
-
 -- ---- the edit
-
-dropped_items : (old items : List PlacedPiece) (e : ItemsEdit) (is : IsItemsEdit old items e) → items_of (drop e.before old) ≡ items_of (replaced old e) ++ map (placed_from e.stood) (items_of is.behind)
-dropped_items old items e is =
-    let sum : e.before + (e.upto - e.before) ≡ e.upto = omega (arith, is.order) in
-    ap items_of (sym (take-append-drop (e.upto - e.before) (drop e.before old)))
-    ∙ items_append (replaced old e) (drop (e.upto - e.before) (drop e.before old))
-    ∙ ap (λ (xs : List PlacedItem). items_of (replaced old e) ++ xs)
-    (ap items_of (drop-drop (e.upto - e.before) e.before old ∙ ap (λ (n : ℕ). drop n old) sum ∙ is.stood) ∙ items_moved e.stood is.behind)
 
 items_few : (ps : List PlacedPiece) → length ps ≤ 1 → length (items_of ps) ≤ 1
 items_few [] few = omega arith
@@ -122,7 +75,7 @@ items_few (p ∷ []) few = few_by p.start p.end p.piece
     few_by from end (pieces.Item item) = omega arith
 items_few (p ∷ x ∷ ps) few = absurd (omega (arith, few))
 
-module _ (q : Question) (number : ℕ) (items old : List PlacedPiece) (e : ItemsEdit) (here : slice_get q.databases number ≡ Some old) (is : IsItemsEdit old items e) (short : IsShort old (drop (number + 1) q.databases) e) where
+module _ (q : Question) (number : ℕ) (items old : List PlacedPiece) (e : ItemsEdit) (here : slice_get q.databases number ≡ Some old) (is : IsItemsEdit old items e) (short : IsShort old e) where
   abbrev a : Asked
   a = ask q number items old e here is
 
@@ -140,36 +93,6 @@ module _ (q : Question) (number : ℕ) (items old : List PlacedPiece) (e : Items
 
   in_place : AreInPlace ms (items_before ed) ed.old ed.new
   in_place = short.pairs ms (items_before ed)
-
-  -- the macros before the span are those behind all items
-
-  abbrev behind_span : List PlacedItem
-  behind_span = ed.old ++ map (placed_from ed.stood) ed.behind ++ all_items ed.others
-
-  none_behind : NoStrings behind_span
-  none_behind =
-      let next : number + 1 ≡ suc number = omega arith in
-      let later : drop (number + 1) q.databases ≡ backs q number items old e here is = ap (λ (n : ℕ). drop n q.databases) next in
-      no_strings_both (ed.old ++ map (placed_from ed.stood) ed.behind) (all_items ed.others)
-      (subst NoStrings (dropped_items old items e is) short.plain)
-      (subst (λ (ds : List (List PlacedPiece)). NoStrings (all_items (map items_of ds))) later short.plain_later)
-
-  all_before : all_items (databases_before ed) ≡ (all_items ed.databases ++ ed.before) ++ behind_span
-  all_before =
-      let moved = map (placed_from ed.stood) ed.behind in
-      items_split ed.databases ed.others (ed.before ++ ed.old ++ moved)
-      ∙ ap (λ (xs : List PlacedItem). all_items ed.databases ++ xs)
-      (ap (λ (xs : List PlacedItem). xs ++ all_items ed.others) (append_assoc ed.before ed.old moved)
-      ∙ append_assoc ed.before (ed.old ++ moved) (all_items ed.others))
-      ∙ sym (append_assoc (all_items ed.databases) ed.before behind_span)
-
-  macros_there : macros_behind q ≡ macro_before ms (items_before ed)
-  macros_there =
-      ap (λ (ds : List (List PlacedItem)). macro_before ms (reverse (all_items ds))) (items_were q number items old e here is)
-      ∙ ap (λ (xs : List PlacedItem). macro_before ms (reverse xs)) all_before
-      ∙ ap (macro_before ms) (reverse-append (all_items ed.databases ++ ed.before) behind_span)
-      ∙ macros_stay ms (reverse (all_items ed.databases ++ ed.before)) behind_span none_behind
-      ∙ ap (macro_before ms) (reverse-append (all_items ed.databases) ed.before)
 
   -- ---- side by side
 
@@ -214,12 +137,14 @@ module _ (q : Question) (number : ℕ) (items old : List PlacedPiece) (e : Items
         let whole = edit_is_patched a ms q.min ed in_place in
         let was = items_were q number items old e here is in
         let now = items_are q number items old e here is in
+        let like : AreAlike (stored_for q) (stored_for r) =
+        ap (λ (ss : List Stored). map skeleton ss) (sym (stored_is a ms (items_in q)))
+        ∙ stored_beside a ms s t all_go_on.beside
+        ∙ ap (λ (ss : List Stored). map skeleton ss) (stored_is a ms (items_in r)) in
         record {
           macros = sym (all_add a ms (items_in q)).stands.macros ∙ macros_beside a ms s t all_go_on.beside ∙ (all_add a ms (items_in r)).stands.macros;
-          alike =
-              ap (λ (ss : List Stored). map skeleton ss) (sym (stored_is a ms (items_in q)))
-              ∙ stored_beside a ms s t all_go_on.beside
-              ∙ ap (λ (ss : List Stored). map skeleton ss) (stored_is a ms (items_in r));
+          alike = like;
+          list = (one_list a q.min (stored_for q) (stored_for r) like).list;
           reaches = all_go_on.reaches_same;
           places =
               ap (λ (ds : List (List PlacedItem)). shown a q.min (stored_entries a ms ds)) was
@@ -235,24 +160,25 @@ module _ (q : Question) (number : ℕ) (items old : List PlacedPiece) (e : Items
 
   -- ---- what the span gives
 
-  module _ (f : Found) (found : IsFound q f) (rs : List Reach) (rs_is : slice_get f.reaches number ≡ Some rs) (r : Around) (around : IsAround rs e.before e.upto r) (made : ResolvedEdit) (by : IsSpanEdit a f number e r made) where
+  module _ (f : Found) (found : IsFound q f) (rs : List Reach) (rs_is : slice_get f.reaches number ≡ Some rs) (r : Around) (around : IsAround rs e.before e.upto r) (known : MacroTexts) (known_is : known ≡ macro_before ms (items_before ed)) (span : Span) (new : IsNewSpan a known number e r span) (made : ResolvedEdit) (by : IsSpanEdit a q.min f span e r made) where
     there : slice_get (reaches_for q) number ≡ Some rs
     there = ap (λ (l : List (List Reach)). slice_get l number) (sym found.reached) ∙ rs_is
 
     abbrev given : Span
     given = record { stored = stored_by a ms ed ed.new; messages = told_by a ms ed ed.new }
 
-    span_given : span_by a (known f.macros) number r e ≡ given
+    span_given : span ≡ given
     span_given =
         let n_is : number + 1 ≡ number_of ed = omega (arith, number_is q number items old e here is) in
-        ap (λ (n : ℕ). span_of a (known f.macros) n (mark_of r) (items_of e.new)) n_is
-        ∙ span_is a ms (number_of ed) (items_before ed) ed.old ed.new (known f.macros) (mark_of r) in_place (items_few e.new short.few)
-        (mark_stored q number items old e here is rs r there around) (mark_told q number items old e here is rs r there around) by.known_of (found.macros_known ∙ macros_there)
+        new.is
+        ∙ ap (λ (n : ℕ). span_of a known n (mark_of r) (items_of e.new)) n_is
+        ∙ span_is a ms (number_of ed) (items_before ed) ed.old ed.new known (mark_of r) in_place (items_few e.new short.few)
+        (mark_stored q number items old e here is rs r there around) (mark_told q number items old e here is rs r there around) new.known_of known_is
 
     count_same : length (told_by a ms ed ed.old) ≡ length (told_by a ms ed ed.new)
     count_same =
         sym (mark_told q number items old e here is rs r there around)
-        ∙ sym by.count
+        ∙ sym new.count
         ∙ ap (λ (s : Span). length s.messages) span_given
 
     told_is : (resolved_for (with_database number items q)).messages ≡ made.messages
@@ -278,37 +204,48 @@ module _ (q : Question) (number : ℕ) (items old : List PlacedPiece) (e : Items
     stored_now : stored_for q ≡ was_stored
     stored_now = ap (stored_entries a ms) (items_were q number items old e here is)
 
+    stored_then : stored_for (with_database number items q) ≡ is_stored_now
+    stored_then = ap (stored_entries a ms) (items_are q number items old e here is)
+
     entries_now : f.all.entries ≡ entries_seen a q.min was_stored
     entries_now = ap (λ (x : Resolved). x.entries) found.resolved_so ∙ seen_entries q ∙ ap (entries_seen a q.min) stored_now
 
-    places_now : f.places ≡ shown a q.min was_stored
-    places_now = found.placed ∙ ap (shown a q.min) stored_now
+    -- what an edit gives of the entries that are seen
+    record Gives (m : SeenEdit) : Type 0 where
+      place : IsWithin m (length was_stored)
+      entries : entries_seen a q.min is_stored_now ≡ with_seen m (entries_seen a q.min was_stored)
+      spared : (k : ℕ) → IsSpared m k → slice_get (entries_seen a q.min was_stored) k ≡ slice_get (entries_seen a q.min is_stored_now) k
+      values : values_read is_stored_now ≡ with_own m (values_read was_stored)
 
-    abbrev Gives : SeenEdit → Type 0
-    Gives m = IsWithin m (length (entries_seen a q.min was_stored)) × (entries_seen a q.min is_stored_now ≡ with_seen m (entries_seen a q.min was_stored))
+    gives_others : (t : Stored) → OnePatched (length (stored_first a ms ed)) t.values was_stored is_stored_now → (place : ℕ) → place ≡ length (stored_first a ms ed) → Gives (Others (other_entries a q.min f (new_values place t)))
+    gives_others t one place place_is =
+        let p = length (stored_first a ms ed) in
+        let like : AreAlike f.store was_stored = found.stored_alike ∙ ap (λ (ss : List Stored). map skeleton ss) stored_now in
+        let values_is : f.values ≡ values_read was_stored = found.values_read ∙ ap values_read stored_now in
+        let list_is : f.listed ≡ listed a was_stored = found.list ∙ ap (listed a) stored_now in
+        let places_is : f.places ≡ shown a q.min was_stored = found.placed ∙ ap (shown a q.min) stored_now in
+        subst (λ (k : ℕ). Gives (Others (other_entries a q.min f (new_values k t)))) (sym place_is) (record {
+          place = one.inside;
+          entries = sym (others_now a q.min p t.values f.store was_stored is_stored_now f.values f.listed f.places f.all.entries like one values_is list_is places_is entries_now);
+          spared = λ k stays. ap (λ (es : List Entry). slice_get es k) (sym entries_now) ∙ stays_now a q.min p t.values f.store was_stored is_stored_now f.values f.listed f.places f.all.entries like one values_is list_is places_is entries_now k stays;
+          values = sym one.values;
+        })
 
-    by_stored : (ts : List Stored) → stored_by a ms ed ed.new ≡ ts → IsSeenEdit a (length (stored_first a ms ed)) (shown a q.min was_stored) f.store (entries_seen a q.min was_stored) ts made.seen → Gives made.seen
+    by_stored : (ts : List Stored) → stored_by a ms ed ed.new ≡ ts → IsSeenEdit a q.min r.first.stored f ts made.seen → Gives made.seen
     by_stored [] none is_same =
-        subst Gives (sym is_same)
-        (tt, ap (entries_seen a q.min) (nothing_patched a ms ed in_place none))
+        let same = nothing_patched a ms ed in_place none in
+        subst Gives (sym is_same) (record {
+          place = tt;
+          entries = ap (entries_seen a q.min) same;
+          spared = λ k all. ap (λ (ss : List Stored). slice_get (entries_seen a q.min ss) k) (sym same);
+          values = ap values_read same;
+        })
     by_stored (t ∷ []) one is_edit =
-        let unreferred : is_referred_to was_stored t.key ≡ false =
-        sym (same_referred f.store was_stored (found.stored_alike ∙ ap (λ (ss : List Stored). map skeleton ss) stored_now) t.key) ∙ is_edit.0.none in
-        entries_by_edit a q.min (length (stored_first a ms ed)) t.values was_stored is_stored_now made.seen (entry_patched a ms q.min ed t in_place one is_edit.0.own unreferred) is_edit.1
+        subst Gives (sym is_edit) (gives_others t (entry_patched a ms ed t in_place one) r.first.stored (stored_before q number items old e here is rs r there around))
     by_stored (t ∷ u ∷ ts) more is_edit = absurd is_edit
 
     gives : Gives made.seen
-    gives =
-        by_stored (stored_by a ms ed ed.new) refl
-        (subst (λ (ts : List Stored). IsSeenEdit a (length (stored_first a ms ed)) (shown a q.min was_stored) f.store (entries_seen a q.min was_stored) ts made.seen) (ap (λ (s : Span). s.stored) span_given)
-        (moved_edit r.first.stored (length (stored_first a ms ed)) f.places (shown a q.min was_stored) f.all.entries (entries_seen a q.min was_stored) (stored_before q number items old e here is rs r there around) places_now entries_now by.seen))
-      where
-        moved_edit : (k n : ℕ) (ps places : List ℕ) (es entries : List Entry) → k ≡ n → ps ≡ places → es ≡ entries → IsSeenEdit a k ps f.store es (span_by a (known f.macros) number r e).stored made.seen →
-            IsSeenEdit a n places f.store entries (span_by a (known f.macros) number r e).stored made.seen
-        moved_edit k n ps places es entries is_k is_ps is_es h =
-            subst (λ (m : ℕ). IsSeenEdit a m places f.store entries (span_by a (known f.macros) number r e).stored made.seen) is_k
-            (subst (λ (l : List ℕ). IsSeenEdit a k l f.store entries (span_by a (known f.macros) number r e).stored made.seen) is_ps
-            (subst (λ (l : List Entry). IsSeenEdit a k ps f.store l (span_by a (known f.macros) number r e).stored made.seen) is_es h))
+    gives = by_stored (stored_by a ms ed ed.new) refl (subst (λ (ts : List Stored). IsSeenEdit a q.min r.first.stored f ts made.seen) (ap (λ (s : Span). s.stored) span_given) by.seen)
 
     -- all that the edit says holds
     pub edit_is_resolved : IsResolvedEdit q number items made
@@ -316,11 +253,16 @@ module _ (q : Question) (number : ℕ) (items old : List PlacedPiece) (e : Items
         let next = with_database number items q in
         let were : (resolved_for q).entries ≡ entries_seen a q.min was_stored = seen_entries q ∙ ap (entries_seen a q.min) stored_now in
         let are : (resolved_for next).entries ≡ entries_seen a q.min is_stored_now =
-        seen_entries next ∙ ap (λ (ds : List (List PlacedItem)). entries_seen a q.min (stored_entries a ms ds)) (items_are q number items old e here is) in
+        seen_entries next ∙ ap (entries_seen a q.min) stored_then in
         record {
           database = slice_get_within q.databases number old here;
-          place = subst (λ (es : List Entry). IsWithin made.seen (length es)) (sym were) gives.0;
-          entries = are ∙ gives.1 ∙ ap (with_seen made.seen) (sym were);
+          place = subst (λ (ss : List Stored). IsWithin made.seen (length ss)) (sym stored_now) gives.place;
+          entries = are ∙ gives.entries ∙ ap (with_seen made.seen) (sym were);
+          spared = λ k stays.
+              ap (λ (es : List Entry). slice_get es k) were
+              ∙ gives.spared k stays
+              ∙ ap (λ (es : List Entry). slice_get es k) (sym are);
+          values = ap values_read stored_then ∙ gives.values ∙ ap (λ (ss : List Stored). with_own made.seen (values_read ss)) (sym stored_now);
           messages = told_is;
           kept = all_kept count_same;
         }
@@ -342,12 +284,12 @@ pub edit_there : (q : Question) (number : ℕ) (items : List PlacedPiece) (e : I
 edit_there q number items e old of here = subst (λ (ps : List PlacedPiece). IsItemsEdit ps items e) (ap (database_or old) (sym of.here ∙ here)) of.edit
 
 -- what `Resolution::edit` found gives what it promises
-edited : (q : Question) (number : ℕ) (items : List PlacedPiece) (e : ItemsEdit) (f : Found) (old : List PlacedPiece) (a : Asked) (rs : List Reach) (r : Around) (made : Option ResolvedEdit) → IsEditOf q number items e → IsFound q f →
-    slice_get q.databases number ≡ Some old → slice_get f.reaches number ≡ Some rs → a ≡ asked_by q → IsShort old (drop (number + 1) q.databases) e → IsAround rs e.before e.upto r →
-    IfSome made (λ m. IsSpanEdit a f number e r m) → IfSome made (λ m. IsResolvedEdit q number items m)
-edited q number items e f old a rs r None of found here rs_is a_is short around by = tt
-edited q number items e f old a rs r (Some made) of found here rs_is a_is short around by =
-    edit_is_resolved q number items old e here (edit_there q number items e old of here) short f found rs rs_is r around made (subst (λ (b : Asked). IsSpanEdit b f number e r made) a_is by)
+edited : (q : Question) (number : ℕ) (items : List PlacedPiece) (e : ItemsEdit) (f : Found) (old : List PlacedPiece) (a : Asked) (rs : List Reach) (r : Around) (known : MacroTexts) (span : Span) (made : Option ResolvedEdit) → IsEditOf q number items e → IsFound q f →
+    slice_get q.databases number ≡ Some old → slice_get f.reaches number ≡ Some rs → a ≡ asked_by q → IsShort old e → IsAround rs e.before e.upto r → known ≡ macros_ahead q number e.before old → IsNewSpan a known number e r span →
+    IfSome made (λ m. IsSpanEdit a q.min f span e r m) → IfSome made (λ m. IsResolvedEdit q number items m)
+edited q number items e f old a rs r known span None of found here rs_is a_is short around known_is new by = tt
+edited q number items e f old a rs r known span (Some made) of found here rs_is a_is short around known_is new by =
+    edit_is_resolved q number items old e here (edit_there q number items e old of here) short f found rs rs_is r around known known_is span (subst (λ (b : Asked). IsNewSpan b known number e r span) a_is new) made (subst (λ (b : Asked). IsSpanEdit b q.min f span e r made) a_is by)
 
 got_reaches : (all others : List (List Reach)) (number : ℕ) (x rs : List Reach) → all ≡ others → number < length all → x ≡ get_or all number x → rs ≡ x → slice_get others number ≡ Some rs
 got_reaches all others number x rs same less is rs_is =
@@ -356,14 +298,15 @@ got_reaches all others number x rs same less is rs_is =
     ∙ ap (λ (y : List Reach). Some y) (sym rs_is)
 
 -- the same, by what the code has in hand
-pub edited_there : (q now : Question) (number : ℕ) (items : List PlacedPiece) (e : ItemsEdit) (f : Found) (ds : List (List PlacedPiece)) (x old : List PlacedPiece) (all : List (List Reach)) (y rs : List Reach) (a : Asked) (r : Around) (made : Option ResolvedEdit) → IsEditOf now number items e → q ≡ now → IsFound q f →
+pub edited_there : (q now : Question) (number : ℕ) (items : List PlacedPiece) (e : ItemsEdit) (f : Found) (ds : List (List PlacedPiece)) (x old : List PlacedPiece) (all : List (List Reach)) (y rs : List Reach) (a : Asked) (r : Around) (known : MacroTexts) (span : Span) (made : Option ResolvedEdit) → IsEditOf now number items e → q ≡ now → IsFound q f →
     ds ≡ q.databases → number < length ds → x ≡ get_or ds number x → old ≡ x → all ≡ f.reaches → number < length all → y ≡ get_or all number y → rs ≡ y → a ≡ asked_by q →
-    IsShort old (take (length ds - (number + 1)) (drop (number + 1) ds)) e → IsAround rs e.before e.upto r → IfSome made (λ m. IsSpanEdit a f number e r m) → IfSome made (λ m. IsResolvedEdit now number items m)
-edited_there q now number items e f ds x old all y rs a r made of same found ds_is less x_is old_is all_is less_all y_is rs_is a_is short around by =
-    let later : take (length ds - (number + 1)) (drop (number + 1) ds) ≡ drop (number + 1) q.databases = take_rest ds (number + 1) ∙ ap (λ (l : List (List PlacedPiece)). drop (number + 1) l) ds_is in
+    IsShort old e → IsAround rs e.before e.upto r → AreAhead now number e.before known → IsNewSpan a known number e r span →
+    IfSome made (λ m. IsSpanEdit a q.min f span e r m) → IfSome made (λ m. IsResolvedEdit now number items m)
+edited_there q now number items e f ds x old all y rs a r known span made of same found ds_is less x_is old_is all_is less_all y_is rs_is a_is short around known_is new by =
+    let here : slice_get q.databases number ≡ Some old = got_pieces ds q.databases number x old ds_is less x_is old_is in
+    let ahead : known ≡ macros_ahead q number e.before old = subst (λ (k : Question). AreAhead k number e.before known) (sym same) known_is old here in
     subst (λ (k : Question). IfSome made (λ m. IsResolvedEdit k number items m)) same
-    (edited q number items e f old a rs r made (subst (λ (k : Question). IsEditOf k number items e) (sym same) of) found (got_pieces ds q.databases number x old ds_is less x_is old_is) (got_reaches all f.reaches number y rs all_is less_all y_is rs_is) a_is
-    (subst (λ (l : List (List PlacedPiece)). IsShort old l e) later short) around by)
+    (edited q number items e f old a rs r known span made (subst (λ (k : Question). IsEditOf k number items e) (sym same) of) found here (got_reaches all f.reaches number y rs all_is less_all y_is rs_is) a_is short around ahead new by)
 
 -- the edit's numbers fit the pieces that are read
 pub edit_fits : (q now : Question) (number : ℕ) (items : List PlacedPiece) (e : ItemsEdit) (ds : List (List PlacedPiece)) (x old : List PlacedPiece) → IsEditOf now number items e → q ≡ now → ds ≡ q.databases → number < length ds → x ≡ get_or ds number x → old ≡ x →
@@ -372,10 +315,36 @@ edit_fits q now number items e ds x old of same ds_is less x_is old_is =
     let is = edit_there now number items e old of (got_pieces ds now.databases number x old (ds_is ∙ ap (λ (k : Question). k.databases) same) less x_is old_is) in
     (is.order, is.inside)
 
+-- what the code finds at a place among the pieces of a database
+pub place_is : (q now : Question) (number before : ℕ) (ds : List (List PlacedPiece)) (x p : List PlacedPiece) → IsPlace now number before → q ≡ now → ds ≡ q.databases → x ≡ get_or ds number x → p ≡ x →
+    (slice_get now.databases number ≡ Some p) × (number ≤ length ds) × (before ≤ length p)
+place_is q now number before ds x p place same ds_is x_is p_is =
+    let there : ds ≡ now.databases = ds_is ∙ ap (λ (k : Question). k.databases) same in
+    let less = subst (λ (l : List (List PlacedPiece)). number < length l) (sym there) (slice_get_within now.databases number place.pieces place.here) in
+    let here = got_pieces ds now.databases number x p there less x_is p_is in
+    (here, omega (arith, less), subst (λ (ps : List PlacedPiece). before ≤ length ps) (ap (database_or p) (sym place.here ∙ here)) place.inside)
+
+-- the macros there, if no string follows
+pub ahead_kept : (q now : Question) (number before : ℕ) (ds : List (List PlacedPiece)) (p : List PlacedPiece) (known : MacroTexts) → q ≡ now → ds ≡ q.databases → slice_get now.databases number ≡ Some p → known ≡ macros_behind q →
+    DefineNothing (items_of (take (length p - before) (drop before p))) → DefineNothing (all_items (map items_of (take (length ds - (number + 1)) (drop (number + 1) ds)))) → AreAhead now number before known
+ahead_kept q now number before ds p known same ds_is here known_is none later ps there =
+    let one : p ≡ ps = ap (database_or ps) (sym here ∙ there) in
+    let rest = subst (λ (l : List PlacedPiece). DefineNothing (items_of l)) (take_rest p before ∙ ap (drop before) one) none in
+    let behind = subst (λ (l : List (List PlacedPiece)). DefineNothing (all_items (map items_of l))) (take_rest ds (number + 1) ∙ ap (drop (number + 1)) (ds_is ∙ ap (λ (k : Question). k.databases) same)) later in
+    known_is ∙ ap macros_behind same ∙ macros_kept now.declared.macros now.databases number before ps there rest behind
+
+-- the macros there, as they are defined again
+pub ahead_made : (q now : Question) (number before : ℕ) (ds : List (List PlacedPiece)) (p : List PlacedPiece) (style : List Macro) (known : MacroTexts) → q ≡ now → ds ≡ q.databases → slice_get now.databases number ≡ Some p → style ≡ q.declared.macros →
+    known ≡ macro_before style (reverse (items_of (take before p)) ++ reverse (all_items (map items_of (take number ds)))) → AreAhead now number before known
+ahead_made q now number before ds p style known same ds_is here style_is known_is ps there =
+    let one : p ≡ ps = ap (database_or ps) (sym here ∙ there) in
+    known_is ∙ (λ j. macro_before ((style_is ∙ ap (λ (k : Question). k.declared.macros) same) j)
+    (reverse (items_of (take before (one j))) ++ reverse (all_items (map items_of (take number ((ds_is ∙ ap (λ (k : Question). k.databases) same) j))))))
+
 -- what is kept for a question, once all is read
 pub found_is : (q : Question) (a : Asked) (before s : State) (ds : List (List PlacedPiece)) (f : Found) → IsTrue (are_apart q.declared.fields) → a ≡ asked_by q → before ≡ nothing_read q.declared.macros → ds ≡ q.databases →
-    s ≡ after_databases a 1 before (map items_of ds) → f.reaches ≡ database_reaches a 1 before ds → known f.macros ≡ s.macros → f.store ≡ s.stored → f.places ≡ shown a q.min s.stored → f.all ≡ resolved_of a q.min s.stored s.preamble s.messages → IsFound q f
-found_is q a before s ds f apart a_is before_is ds_is s_is reaches_is macros_are store_is places_are all_is =
+    s ≡ after_databases a 1 before (map items_of ds) → f.reaches ≡ database_reaches a 1 before ds → known f.macros ≡ s.macros → f.store ≡ s.stored → f.values ≡ values_read s.stored → f.listed ≡ listed a s.stored → f.places ≡ shown a q.min s.stored → f.all ≡ resolved_of a q.min s.stored s.preamble s.messages → IsFound q f
+found_is q a before s ds f apart a_is before_is ds_is s_is reaches_is macros_are store_is values_are list_is places_are all_is =
     let ms = q.declared.macros in
     let whole : s ≡ after_databases (asked_by q) 1 (nothing_read ms) (items_in q) = s_is ∙ (λ j. after_databases (a_is j) 1 (before_is j) (map items_of (ds_is j))) in
     let stored : s.stored ≡ stored_for q = ap (λ (t : State). t.stored) whole ∙ stored_is (asked_by q) ms (items_in q) in
@@ -383,6 +352,8 @@ found_is q a before s ds f apart a_is before_is ds_is s_is reaches_is macros_are
       fields_apart = apart;
       macros_known = macros_are ∙ ap (λ (t : State). t.macros) whole ∙ (all_add (asked_by q) ms (items_in q)).stands.macros;
       stored_alike = ap (λ (ss : List Stored). map skeleton ss) (store_is ∙ stored);
+      values_read = values_are ∙ ap values_read stored;
+      list = list_is ∙ (λ j. listed (a_is j) (stored j));
       reached = reaches_is ∙ (λ j. database_reaches (a_is j) 1 (before_is j) (ds_is j));
       placed = places_are ∙ (λ j. shown (a_is j) q.min (stored j));
       resolved_so = resolved_is q.declared q.cites q.min (items_in q) a before s f.all a_is before_is (s_is ∙ ap (λ (l : List (List PlacedPiece)). after_databases a 1 before (map items_of l)) ds_is) all_is;
@@ -390,7 +361,7 @@ found_is q a before s ds f apart a_is before_is ds_is s_is reaches_is macros_are
 
 -- what is kept after an edit was put in place
 pub put_is : (q : Question) (number : ℕ) (items : List PlacedPiece) (made : ResolvedEdit) (f g : Found) → IsFound q f → IsResolvedEdit q number items made →
-    g ≡ record f { all = record f.all { entries = with_seen made.seen f.all.entries; messages = made.messages } } → IsFound (with_database number items q) g
+    g ≡ record f { values = with_own made.seen f.values; all = record f.all { entries = with_seen made.seen f.all.entries; messages = made.messages } } → IsFound (with_database number items q) g
 put_is q number items made f g found is g_is =
     let r = with_database number items q in
     let all : (record f.all { entries = with_seen made.seen f.all.entries; messages = made.messages }) ≡ resolved_for r = λ j. record {
@@ -402,6 +373,8 @@ put_is q number items made f g found is g_is =
       fields_apart = found.fields_apart;
       macros_known = found.macros_known ∙ is.kept.macros;
       stored_alike = found.stored_alike ∙ is.kept.alike;
+      values_read = ap (with_own made.seen) found.values_read ∙ sym is.values;
+      list = found.list ∙ is.kept.list;
       reached = found.reached ∙ is.kept.reaches;
       placed = found.placed ∙ is.kept.places;
       resolved_so = all;

@@ -20,17 +20,16 @@ use Rattle.bt_resolve.specs.declared.span.Mark.{Mark}
 use Rattle.bt_resolve.specs.declared.span.Span.{Span}
 use Rattle.bt_resolve.specs.declared.stored.Stored.{Stored}
 use Rattle.bt_resolve.specs.Values.{MacroTexts}
-use Rattle.bt_resolve.specs.Macros.{macro_before}
+use Rattle.bt_resolve.specs.Macros.{faultless, macro_before}
 use Rattle.bt_resolve.specs.Stored.{stored_of, is_wanted, is_stored, stored_among}
 use Rattle.bt_resolve.specs.Warnings.{line_at}
-use Rattle.bt_resolve.specs.inner.Cases.{origin_of, with_content, with_entry, with_item, key_messages, fault_messages, messages_at}
+use Rattle.bt_resolve.specs.inner.Cases.{origin_of, with_entry, with_item, key_messages, string_messages, preamble_messages, fault_messages, messages_at}
 use Rattle.bt_resolve.specs.Faults.{repeated}
 use Rattle.bt_resolve.specs.Messages.{stored_messages, item_messages, for_each}
-use Rattle.bt_resolve.specs.inner.Kept.{NoStrings}
 use Rattle.bt_resolve.specs.inner.Spans.{tells, stored_if, told_if, nothing, with_item_by, is_entry_item, span_of, tells_of}
-use Rattle.bt_resolve.specs.Skeletons.{AreAlike, is_string, IsLike, AreInPlace, entry_added, added, added_at}
+use Rattle.bt_resolve.specs.Skeletons.{AreAlike, IsLike, AreInPlace, entry_added, added, added_at}
 use Rattle.bt_resolve.proofs.SkeletonLemmas.{same_wanted, same_stored}
-use Rattle.bt_resolve.proofs.PlacingLemmas.{behind_next}
+use Rattle.bt_resolve.proofs.SpanLemmas.{messages_are}
 
 -- ---- one entry
 
@@ -76,7 +75,7 @@ abbrev item_of : ℕ → Content → Option Closing → Option ItemFault → Ite
 item_of line c close fault = record { line = line; content = c; close = close; fault = fault }
 
 item_tells : (a : Asked) (before macros : MacroTexts) (ss ts : List Stored) (o p : Origin) (stop end : Spot) (line next : ℕ) (x y : Content) (closed close : Option Closing) (wrong fault : Option ItemFault) (m : Mark) (s : Span) → AreAlike ss ts → IsLike before x y →
-    m.stored ≡ nat_lt (length ss) (length (with_item a before x ss)) → m.told ≡ length (item_messages a before ss o stop (item_of line x closed wrong)) → IsTrue (is_entry_item (item_of next y close fault) && tells m) →
+    m.stored ≡ nat_lt (length ss) (length (with_item a before x ss)) → m.told ≡ length (item_messages a before ss o stop (item_of line x closed wrong)) → IsTrue (not (is_entry_item (item_of next y close fault)) || tells m) →
     with_item_by a macros m p end (item_of next y close fault) s ≡ given a macros ts p end (item_of next y close fault) s
 unfolding item_messages
 item_tells a before macros ss ts o p stop end line next (contents.Entry e) (contents.Entry f) closed close wrong fault m s alike like marked count h =
@@ -92,11 +91,21 @@ item_tells a before macros ss ts o p stop end line next (contents.Entry e) (cont
 item_tells a before macros ss ts o p stop end line next (contents.Entry e) (contents.Define d) closed close wrong fault m s alike like marked count h = absurd like
 item_tells a before macros ss ts o p stop end line next (contents.Entry e) (contents.Preamble parts) closed close wrong fault m s alike like marked count h = absurd like
 item_tells a before macros ss ts o p stop end line next (contents.Define d) (contents.Entry f) closed close wrong fault m s alike like marked count h = let wrong_is : contents.Define d ≡ contents.Entry f = like in cc
-item_tells a before macros ss ts o p stop end line next (contents.Define d) (contents.Define g) closed close wrong fault m s alike like marked count h = let wrong_is : false ≡ true = h in cc
-item_tells a before macros ss ts o p stop end line next (contents.Define d) (contents.Preamble parts) closed close wrong fault m s alike like marked count h = let wrong_is : false ≡ true = h in cc
+item_tells a before macros ss ts o p stop end line next (contents.Define d) (contents.Define g) closed close wrong fault m s alike like marked count h =
+    let told = string_messages macros p next g.name (faultless fault g.value) in
+    (λ j. record {
+      stored = sym (append-nil s.stored) j;
+      messages = (append_assoc s.messages told (fault_messages p.database end (contents.Define g) close fault) ∙ ap (λ (ms : List Message). s.messages ++ ms) (sym (messages_are a macros ts p end (item_of next (contents.Define g) close fault)))) j;
+    })
+item_tells a before macros ss ts o p stop end line next (contents.Define d) (contents.Preamble parts) closed close wrong fault m s alike like marked count h = let wrong_is : contents.Define d ≡ contents.Preamble parts = like in cc
 item_tells a before macros ss ts o p stop end line next (contents.Preamble q) (contents.Entry f) closed close wrong fault m s alike like marked count h = let wrong_is : contents.Preamble q ≡ contents.Entry f = like in cc
-item_tells a before macros ss ts o p stop end line next (contents.Preamble q) (contents.Define g) closed close wrong fault m s alike like marked count h = let wrong_is : false ≡ true = h in cc
-item_tells a before macros ss ts o p stop end line next (contents.Preamble q) (contents.Preamble parts) closed close wrong fault m s alike like marked count h = let wrong_is : false ≡ true = h in cc
+item_tells a before macros ss ts o p stop end line next (contents.Preamble q) (contents.Define g) closed close wrong fault m s alike like marked count h = let wrong_is : contents.Preamble q ≡ contents.Define g = like in cc
+item_tells a before macros ss ts o p stop end line next (contents.Preamble q) (contents.Preamble parts) closed close wrong fault m s alike like marked count h =
+    let told = preamble_messages macros p next (faultless fault parts) in
+    (λ j. record {
+      stored = sym (append-nil s.stored) j;
+      messages = (append_assoc s.messages told (fault_messages p.database end (contents.Preamble parts) close fault) ∙ ap (λ (ms : List Message). s.messages ++ ms) (sym (messages_are a macros ts p end (item_of next (contents.Preamble parts) close fault)))) j;
+    })
 
 -- ---- at most one item
 
@@ -128,19 +137,3 @@ pub only_piece : (ps : List PlacedPiece) (p : PlacedPiece) → length ps ≤ 1 �
 only_piece [] p few some is = absurd (some refl)
 only_piece (x ∷ []) p few some is = λ j. sym is j ∷ []
 only_piece (x ∷ y ∷ ps) p few some is = absurd (omega (arith, few))
-
--- ---- macros
-
-not_string : (c : Content) (fault : Option ItemFault) (macros : MacroTexts) → is_string c ≡ false → with_content fault c macros ≡ macros
-not_string (contents.Entry e) fault macros is = refl
-not_string (contents.Define d) fault macros is = let wrong : true ≡ false = is in cc
-not_string (contents.Preamble parts) fault macros is = refl
-
--- then the macros behind them are those before them
-pub macros_stay : (ms : List Macro) (before items : List PlacedItem) → NoStrings items → macro_before ms (reverse items ++ before) ≡ macro_before ms before
-unfolding macro_before
-macros_stay ms before [] none = refl
-macros_stay ms before (x ∷ items) none =
-    ap (macro_before ms) (behind_next x items before)
-    ∙ macros_stay ms (x ∷ before) items none.1
-    ∙ not_string x.item.content x.item.fault (macro_before ms before) none.0

@@ -28,7 +28,7 @@ use Rattle.bt_resolve.specs.Stored.{kind_of, is_wanted, is_stored, stored_among}
 use Rattle.bt_resolve.specs.Warnings.{line_at, extra_field}
 use Rattle.bt_resolve.specs.inner.Cases.{origin_of, string_messages, preamble_messages, macro_warnings, length_warnings, has_field, is_declared, declared_messages, type_messages, key_messages, content_messages, fault_messages, messages_at, preamble_at}
 use Rattle.bt_resolve.specs.Faults.{repeated}
-use Rattle.bt_resolve.specs.Messages.{stored_messages, item_messages, for_each}
+use Rattle.bt_resolve.specs.Messages.{stored_messages, for_each}
 use Rattle.bt_resolve.specs.Skeletons.{AreOneBefore, added_at, placed_from, moved_message, MovedItemsAreTheSame}
 use Rattle.bt_resolve.proofs.PlacingLemmas.{behind_next}
 use Rattle.bt_resolve.proofs.SpanLemmas.{item_added, item_told, item_said, messages_are, one_more}

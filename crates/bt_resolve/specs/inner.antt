@@ -14,4 +14,5 @@ pub mod Skeletons
 pub mod Spans
 pub mod Reaches
 pub mod Patches
+pub mod Heirs
 pub mod Kept

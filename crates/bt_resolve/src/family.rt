@@ -1,7 +1,8 @@
 //! The stored entries, each with the entry that it refers to.
 //!
 //! Making the list, inheritance and leaving entries out all ask for an entry's parent, and for the number of its
-//! children. So each `crossref` is looked up once, before all of them.
+//! children. So each `crossref` is looked up once, when all entries are stored. No edit changes these answers while the
+//! stored entries keep their skeletons, so a resolution keeps them.
 
 ghost use Rattle.std.specs.Prelude.{◌≡◌, ◌+◌, ◌-◌, ◌^◌, ◌<◌, ℕ, count_by, if◌then◌else◌, map, IfOk, OnOk};
 ghost use Rattle.bt_resolve.specs.inner.Family.{count_at};
@@ -17,13 +18,13 @@ use std::marker::Model;
 
 /// The stored entries, with the entry that each refers to, and how many refer to each. Contracts see their list.
 #[derive(Drop)]
-pub struct Family<'a> {
-    store: &'a Store,
+pub struct Family {
+    store: Store,
     parents: Vec<Option<usize>>,
     counts: HashMap<usize, usize>,
 }
 
-impl<'a> Model for Family<'a> {
+impl Model for Family {
     ghost use Rattle.std.specs.Prelude.{List};
     ghost use Rattle.bt_resolve.specs.declared.stored.Stored.{Stored};
 
@@ -31,9 +32,9 @@ impl<'a> Model for Family<'a> {
 
     ghost use Rattle.bt_resolve.specs.inner.Family.{IsFamily};
 
-    ghost view = { λ family. family.store.now };
+    ghost view = { λ family. family.store };
 
-    ghost invariant = { λ family. IsFamily family.store.now family.parents.items family.counts };
+    ghost invariant = { λ family. IsFamily family.store family.parents.items family.counts };
 }
 
 fn parent_of(alloc: Global, store: &Store, entry: &Stored) -> Result<Option<usize>, AllocError>
@@ -83,11 +84,11 @@ fn count_parents(
     Ok(counts)
 }
 
-impl<'a> Family<'a> {
-    pub fn new(alloc: Global, store: &'a Store) -> Result<Self, AllocError>
-        ensures { IfOk result (λ family. family ≡ store.now) }
+impl Family {
+    pub fn new(alloc: Global, store: Store) -> Result<Self, AllocError>
+        ensures { IfOk result (λ family. family ≡ store) }
     {
-        let parents = all_parents(alloc, store)?;
+        let parents = all_parents(alloc, &store)?;
         let counts = count_parents(alloc, parents.as_slice())?;
         Ok(Family {
             store,
@@ -137,7 +138,7 @@ impl<'a> Family<'a> {
     pub fn parent_of(&self, alloc: Global, entry: &Stored) -> Result<Option<usize>, AllocError>
         ensures { IfOk result (λ parent. parent ≡ parent_of self.now entry.now) }
     {
-        parent_of(alloc, self.store, entry)
+        parent_of(alloc, &self.store, entry)
     }
 
     /// How many entries refer to the entry at `place`.

@@ -52,9 +52,9 @@ pub fn values_read(alloc: Global, stored: &[Stored]) -> Result<Vec<Shared<FieldV
 }
 
 /// Lets the entry at a place inherit from its parent, as the parent is now.
-fn inherit_at(
+pub fn inherit_at(
     alloc: Global,
-    family: &Family<'_>,
+    family: &Family,
     place: usize,
     values: &mut Vec<Shared<FieldValues>>,
 ) -> Result<(), AllocError>
@@ -75,7 +75,7 @@ fn inherit_at(
 /// Lets the entries at some places inherit, one after another.
 pub fn all_inherit(
     alloc: Global,
-    family: &Family<'_>,
+    family: &Family,
     places: &[usize],
     values: &mut Vec<Shared<FieldValues>>,
 ) -> Result<(), AllocError>

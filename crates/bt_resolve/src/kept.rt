@@ -1,47 +1,57 @@
 //! A resolution that is kept, and what a small edit changes of it.
 //!
 //! Which entries are stored and listed, in what order, under which key, and who refers to whom: all that depends on keys,
-//! types and `crossref` fields. So an edit in any other field leaves it as it was. If the changed entry refers to none,
-//! and none refers to it, then only this entry is seen differently, and only its messages are new; those after it move.
-//! Any other edit is resolved anew.
+//! types and `crossref` fields. An edit of another field changes none of that. Then only the changed entry and its heirs
+//! are seen differently, only that entry's messages are new, and later messages only move. A string or a preamble that
+//! only moves changes still less. After any other edit everything is resolved anew.
 //!
-//! What is kept beside the answer isn't touched by such an edit, so it needn't be patched: how far the reading was before
-//! each piece, the macros, and the stored entries. The latter may have older values, but their keys, types and references
-//! are right, and nothing else of them is asked for.
+//! Most of what is kept beside the answer stays right after such an edit: how far the reading was before each piece, the
+//! list, the macros after all items, and the stored entries apart from their values. The present values have a list of
+//! their own.
 
 ghost use Rattle.std.specs.Prelude.{◌≡◌, ◌+◌, ◌++◌, ◌^◌, ◌<◌, ◌≤◌, length, map, IfOk, IfSome, IsTrue};
 ghost use Rattle.bt_bib.specs.Items.{items_of};
+ghost use Rattle.bt_text.specs.ByName.{known};
 ghost use Rattle.bt_text.specs.NameList.{are_apart};
-ghost use Rattle.bt_resolve.specs.inner.Kept.{IsAround, IsEditOf, IsFound, IsResolvedEdit, IsSpanEdit, asked_by, found_of, mark_of, resolved_for, with_database};
+ghost use Rattle.bt_resolve.specs.inner.Kept.{IsAround, IsEditOf, IsFound, IsNewSpan, IsPlace, AreAhead, IsResolvedEdit, IsSpanEdit, asked_by, found_of, mark_of, resolved_for, with_database};
 ghost use Rattle.bt_resolve.specs.References.{list_messages};
 ghost use Rattle.bt_resolve.specs.inner.Inheritance.{seen_of};
 
 use crate::asked::Asked;
 use crate::databases::{nothing_read, read_databases};
 use crate::entry::{Entry, Resolved};
+use crate::family::Family;
+use crate::inheritance::values_read;
 use crate::macro_text::MacroText;
+use crate::macros_ahead::{define_nothing, have_no_strings, macros_before};
 use crate::moved_messages::patched;
 use crate::question::Question;
 use crate::reading::{Reach, Reading};
 use crate::resolution::resolve_list;
 use crate::seen_edit::{SeenEdit, put_seen, seen_edit};
 use crate::short_edit::is_short;
-use crate::span::{Mark, read_span};
+use crate::span::{Mark, Span, read_span};
 use crate::store::Store;
+use crate::stored::FieldValues;
 use crate::view::Seen;
 use bt_bib::{Items, ItemsEdit};
 use bt_log::Message;
 use bt_text::{ByName, Bytes, Sequence, Shared};
 use std::alloc::{AllocError, Global};
 use std::marker::Model;
+use std::mem;
 
 /// What was found for a question, with what an edit needs.
 #[derive(Drop)]
 pub struct Found {
     /// What macros stand for after all items.
-    pub macros: ByName<MacroText>,
+    pub macros: Shared<ByName<MacroText>>,
     /// The stored entries, but perhaps with older values.
-    pub store: Store,
+    pub store: Family,
+    /// The values of the stored entries, before they inherit.
+    pub values: Sequence<Shared<FieldValues>>,
+    /// The places of the whole list, with the entries that are left out.
+    pub listed: Sequence<usize>,
     /// How far the reading was before each piece of each database, and at its end.
     pub reaches: Sequence<Sequence<Reach>>,
     /// The places of the entries that are seen, among the stored ones.
@@ -71,7 +81,7 @@ impl Model for Resolution {
 /// What an edit changes of a resolution.
 #[derive(Drop)]
 pub struct ResolvedEdit {
-    /// Which entry is seen differently.
+    /// Which entries are seen.
     pub seen: SeenEdit,
     /// All messages after the edit.
     pub messages: Sequence<Message>,
@@ -111,33 +121,49 @@ fn mark_of(around: Around) -> Mark
     }
 }
 
-/// What an edit of at most one entry changes, if it is known whether this entry is stored.
-fn span_edit(
+/// What the new piece of an edit gives, with these macros before it. None if it isn't known whether its entry is stored, or
+/// the messages aren't as many as before.
+fn new_span(
     alloc: Global,
     asked: &Asked<'_>,
-    found: &Found,
+    macros: &ByName<MacroText>,
     number: usize,
     edit: &ItemsEdit,
     around: Around,
-) -> Result<Option<ResolvedEdit>, AllocError>
+) -> Result<Option<Span>, AllocError>
     requires few { length edit.now.new ≤ 1 }
     requires number { number + 1 < 2 ^ 64 }
     requires fields { IsTrue (are_apart asked.now.fields) }
-    ensures { IfOk result (λ made. IfSome made (λ e. IsSpanEdit asked.now found.now number edit.now around e)) }
+    ensures { IfOk result (λ read. IfSome read (λ span.
+        IsNewSpan asked.now (known macros.now) number edit.now around span)) }
 {
     let mark = mark_of(around);
     let new = edit.new.pieces();
-    let Some(span) = read_span(alloc, asked, number + 1, mark, new, &found.macros)? else {
+    let Some(span) = read_span(alloc, asked, number + 1, mark, new, macros)? else {
         return Ok(None);
     };
     if span.messages.len() != mark.told {
         return Ok(None);
     }
-    let places = found.places.as_slice();
-    let entries = found.all.entries.as_slice();
+    Ok(Some(span))
+}
+
+/// What an edit of at most one piece changes, if the new one gives this.
+fn span_edit(
+    alloc: Global,
+    asked: &Asked<'_>,
+    min: u32,
+    found: &Found,
+    span: &Span,
+    edit: &ItemsEdit,
+    around: Around,
+) -> Result<Option<ResolvedEdit>, AllocError>
+    ensures { IfOk result (λ made. IfSome made (λ e.
+        IsSpanEdit asked.now min found.now span.now edit.now around e)) }
+{
     let stored = span.stored.as_slice();
     let place = around.first.stored;
-    let Some(seen) = seen_edit(alloc, asked, place, places, &found.store, entries, stored)? else {
+    let Some(seen) = seen_edit(alloc, asked, min, place, found, stored)? else {
         return Ok(None);
     };
     let all = found.all.messages.as_slice();
@@ -148,21 +174,29 @@ fn span_edit(
     Ok(Some(ResolvedEdit { seen, messages }))
 }
 
+/// What is kept of a reading, whose entries are in `store`.
 fn found_of(
     alloc: Global,
     read: Reading,
+    store: Family,
     reaches: Sequence<Sequence<Reach>>,
     seen: Seen,
 ) -> Result<Found, AllocError>
-    ensures { IfOk result (λ found. found ≡ found_of read reaches seen) }
+    ensures { IfOk result (λ found. found ≡ found_of (record read { store = store }) reaches seen) }
 {
     let Reading {
         macros,
-        store,
         preamble,
         messages,
+        ..
     } = read;
-    let Seen { places, entries } = seen;
+    let Seen {
+        listed,
+        places,
+        entries,
+    } = seen;
+    let values = Sequence::from_vec(values_read(alloc, store.entries())?);
+    let macros = Shared::new(alloc, macros)?;
     let preamble = Shared::new(alloc, preamble)?;
     let all = Resolved {
         entries,
@@ -172,6 +206,8 @@ fn found_of(
     Ok(Found {
         macros,
         store,
+        values,
+        listed,
         reaches,
         places,
         all,
@@ -203,8 +239,10 @@ fn found_in(
         found ≡ found_of all reaches (seen_of asked.now min read.store)) }
 {
     let mut read = read;
-    let seen = resolve_list(alloc, asked, min, &read.store, &mut read.messages)?;
-    let found = found_of(alloc, read, reaches, seen)?;
+    let store = mem::replace(&mut read.store, Store::new(alloc));
+    let family = Family::new(alloc, store)?;
+    let seen = resolve_list(alloc, asked, min, &family, &mut read.messages)?;
+    let found = found_of(alloc, read, family, reaches, seen)?;
     Ok(found)
 }
 
@@ -226,12 +264,12 @@ fn find(alloc: Global, question: &Question) -> Result<Found, AllocError>
     requires star { IfSome question.now.cites.star (λ before. before ≤ length question.now.cites.keys) }
     ensures { IfOk result (λ found. IsFound question.now found) }
 {
-    let asked = Asked::new(alloc, &question.declared, &question.cites)?;
+    let asked = Asked::for_all(alloc, &question.declared, &question.cites)?;
     find_asked(alloc, &asked, question)
 }
 
 impl Resolution {
-    /// What the style sees of some databases.
+    /// What the style sees of some databases. The only error is out of memory.
     pub fn of(alloc: Global, question: Question) -> Result<Resolution, AllocError>
         requires fields { IsTrue (are_apart question.declared.fields) }
         requires star { IfSome question.cites.star (λ before. before ≤ length question.cites.keys) }
@@ -255,8 +293,32 @@ impl Resolution {
         &self.found.all
     }
 
-    /// What an edit changes that leaves these items in a database. None if that is more than one entry; then everything
-    /// must be resolved anew. The only error is out of memory.
+    /// What macros stand for before a piece of a database.
+    fn macros_ahead(
+        &self,
+        alloc: Global,
+        asked: &Asked<'_>,
+        number: usize,
+        before: usize,
+    ) -> Result<Shared<ByName<MacroText>>, AllocError>
+        requires { IsPlace self.now number before }
+        ensures { IfOk result (λ macros. AreAhead self.now number before (known macros)) }
+    {
+        let databases = self.question.databases.as_slice();
+        let items = &databases[number];
+        let pieces = items.pieces();
+        let later = &databases[number + 1..];
+        if define_nothing(&pieces[before..]) && have_no_strings(later) {
+            return self.found.macros.share();
+        }
+        let style = self.question.declared.macros.as_slice();
+        let (databases, pieces) = (&databases[..number], &pieces[..before]);
+        let macros = macros_before(alloc, asked, style, databases, pieces)?;
+        Shared::new(alloc, macros)
+    }
+
+    /// What changes if an edit leaves these items in a database. None if that may be more than the values of one entry;
+    /// then everything must be resolved anew. The only error is out of memory.
     pub fn edit(
         &self,
         alloc: Global,
@@ -277,7 +339,7 @@ impl Resolution {
         }
         let database = &databases[number];
         let old = database.pieces();
-        if !is_short(old, &databases[number + 1..], edit) {
+        if !is_short(old, edit) {
             return Ok(None);
         }
         let passed = &reaches[number];
@@ -285,17 +347,23 @@ impl Resolution {
             return Ok(None);
         };
         let asked = Asked::new(alloc, &self.question.declared, &self.question.cites)?;
-        let made = span_edit(alloc, &asked, &self.found, number, edit, around)?;
+        let macros = self.macros_ahead(alloc, &asked, number, edit.before)?;
+        let read = new_span(alloc, &asked, &macros, number, edit, around)?;
+        let Some(span) = read else {
+            return Ok(None);
+        };
+        let min = self.question.min;
+        let made = span_edit(alloc, &asked, min, &self.found, &span, edit, around)?;
         Ok(made)
     }
 
-    /// Puts an edit in place that leaves these items in a database.
+    /// Makes the edit that leaves these items in a database. It can't fail.
     pub fn put(&mut self, number: usize, items: Shared<Items>, edit: ResolvedEdit)
         requires { IsResolvedEdit self.old number items edit }
         ensures { self.new ≡ with_database number items self.old }
     {
         let ResolvedEdit { seen, messages } = edit;
-        put_seen(&mut self.found.all.entries, seen);
+        put_seen(&mut self.found.all.entries, &mut self.found.values, seen);
         self.found.all.messages = messages;
         self.question.databases.set(number, items);
     }

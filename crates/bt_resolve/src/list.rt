@@ -19,7 +19,7 @@ use std::collections::HashSet;
 pub fn is_cited_at(
     alloc: Global,
     keys: &NameList,
-    family: &Family<'_>,
+    family: &Family,
     place: usize,
 ) -> Result<bool, AllocError>
     ensures { IfOk result (λ cited. cited ≡ is_cited_at keys.now family.now place) }
@@ -30,11 +30,7 @@ pub fn is_cited_at(
     }
 }
 
-fn cited_places(
-    alloc: Global,
-    keys: &[Bytes],
-    family: &Family<'_>,
-) -> Result<Vec<usize>, AllocError>
+fn cited_places(alloc: Global, keys: &[Bytes], family: &Family) -> Result<Vec<usize>, AllocError>
     ensures { IfOk result (λ places. places.items ≡ cited_places keys.now family.now) }
 {
     let mut places = Vec::new(alloc);
@@ -52,7 +48,7 @@ fn known_places(alloc: Global, places: &[Option<usize>]) -> Result<Vec<usize>, A
     places.iter().filter_map(|place| *place).collect(alloc)
 }
 
-fn parents(alloc: Global, family: &Family<'_>) -> Result<Vec<usize>, AllocError>
+fn parents(alloc: Global, family: &Family) -> Result<Vec<usize>, AllocError>
     ensures { IfOk result (λ places. places.items ≡ parents family.now) }
 {
     known_places(alloc, family.parents())
@@ -61,7 +57,7 @@ fn parents(alloc: Global, family: &Family<'_>) -> Result<Vec<usize>, AllocError>
 fn uncited(
     alloc: Global,
     keys: &NameList,
-    family: &Family<'_>,
+    family: &Family,
     places: &[usize],
 ) -> Result<Vec<usize>, AllocError>
     ensures { IfOk result (λ found. found.items
@@ -117,7 +113,7 @@ fn firsts(alloc: Global, places: &[usize]) -> Result<Vec<usize>, AllocError>
 fn uncited_parents(
     alloc: Global,
     keys: &NameList,
-    family: &Family<'_>,
+    family: &Family,
 ) -> Result<Vec<usize>, AllocError>
     ensures { IfOk result (λ found. found.items ≡ uncited_parents keys.now family.now) }
 {
@@ -136,11 +132,7 @@ fn place_set(alloc: Global, places: &[usize]) -> Result<HashSet<usize>, AllocErr
     Ok(set)
 }
 
-fn others_than(
-    alloc: Global,
-    these: &[usize],
-    family: &Family<'_>,
-) -> Result<Vec<usize>, AllocError>
+fn others_than(alloc: Global, these: &[usize], family: &Family) -> Result<Vec<usize>, AllocError>
     ensures { IfOk result (λ found. found.items ≡ others_than these.now family.now) }
 {
     let set = place_set(alloc, these)?;
@@ -151,11 +143,7 @@ fn others_than(
 
 /// The list: the cited entries, then those that entries refer to or, with `*`, all others.
 #[tactic(auto, unfolding(crate::specs::Listed::listed))]
-pub fn listed(
-    alloc: Global,
-    asked: &Asked<'_>,
-    family: &Family<'_>,
-) -> Result<Vec<usize>, AllocError>
+pub fn listed(alloc: Global, asked: &Asked<'_>, family: &Family) -> Result<Vec<usize>, AllocError>
     requires { IfSome asked.now.star (λ before. before ≤ length asked.now.keys) }
     ensures { IfOk result (λ places. places.items ≡ listed asked.now family.now) }
 {

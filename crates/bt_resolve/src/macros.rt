@@ -69,6 +69,34 @@ impl Reader<'_> {
         macros.insert(self.alloc, name, MacroText::of_value(value)?)
     }
 
+    /// Adds the messages of a string, but doesn't define its macro.
+    pub fn tell_string(
+        &self,
+        item: &Item,
+        string: &Definition,
+        macros: &ByName<MacroText>,
+        messages: &mut Sequence<Message>,
+    ) -> Result<(), AllocError>
+        ensures { OnOk result (messages.new ≡ messages.old
+            ++ messages_of_string self.now (known macros.now) item.now string.now) }
+    {
+        let Some(name) = &string.name else {
+            return Ok(());
+        };
+        let Some(parts) = faultless(item, &string.value) else {
+            return Ok(());
+        };
+        let name = name.as_slice();
+        let reader = ValueReader {
+            alloc: self.alloc,
+            macros,
+            own: Some(name),
+            origin: self.origin,
+        };
+        let _value = reader.value(name, item.line, parts.as_slice(), messages)?;
+        Ok(())
+    }
+
     /// Reads a preamble: its value is appended to `preamble`, unless the item has a fault.
     pub fn preamble(
         &self,

@@ -31,26 +31,25 @@ pub fn resolve_list(
     alloc: Global,
     asked: &Asked<'_>,
     min: u32,
-    store: &Store,
+    family: &Family,
     messages: &mut Sequence<Message>,
 ) -> Result<Seen, AllocError>
     requires { IfSome asked.now.star (λ before. before ≤ length asked.now.keys) }
-    ensures seen { IfOk result (λ seen. seen ≡ seen_of asked.now min store.now) }
-    ensures messages { OnOk result (messages.new ≡ messages.old ++ list_messages asked.now store.now) }
+    ensures seen { IfOk result (λ seen. seen ≡ seen_of asked.now min family.now) }
+    ensures messages { OnOk result (messages.new ≡ messages.old ++ list_messages asked.now family.now) }
 {
-    let family = Family::new(alloc, store)?;
-    let places = listed(alloc, asked, &family)?;
+    let places = listed(alloc, asked, family)?;
     let view = View {
         alloc,
         asked,
         min,
-        family: &family,
+        family,
     };
     view.tell_list(places.as_slice(), messages)?;
-    view.seen_of_list(places.as_slice())
+    view.seen_of_list(places)
 }
 
-/// Moves the preamble and the messages out of `read`.
+/// Moves the entries, the preamble and the messages out of `read`.
 fn resolve_read(
     alloc: Global,
     asked: &Asked<'_>,
@@ -61,7 +60,9 @@ fn resolve_read(
     ensures { IfOk result (λ all. all
         ≡ resolved_of asked.now min read.old.store read.old.preamble read.old.messages) }
 {
-    let Seen { entries, .. } = resolve_list(alloc, asked, min, &read.store, &mut read.messages)?;
+    let store = mem::replace(&mut read.store, Store::new(alloc));
+    let family = Family::new(alloc, store)?;
+    let Seen { entries, .. } = resolve_list(alloc, asked, min, &family, &mut read.messages)?;
     let preamble = mem::replace(&mut read.preamble, Bytes::new(alloc));
     let messages = mem::replace(&mut read.messages, Sequence::new(alloc));
     Ok(Resolved {

@@ -1,130 +1,77 @@
 //! How an edit changes the entries that a style sees.
 
-ghost use Rattle.std.specs.Prelude.{◌≡◌, None, length, IfOk, IfSome};
-ghost use Rattle.bt_resolve.specs.Names.{crossref, place_of_name};
-ghost use Rattle.bt_resolve.specs.inner.Cases.{with_crossref};
-ghost use Rattle.bt_resolve.specs.inner.Kept.{IsEntryEdit, IsOnly, IsSeenEdit, IsWithin, next_only, with_own, with_seen};
+ghost use Rattle.std.specs.Prelude.{◌≡◌, length, IfOk, IfSome};
+ghost use Rattle.bt_resolve.specs.inner.Kept.{IsSeenEdit, IsWithin, other_entries, with_own, with_seen};
 
 use crate::asked::Asked;
 use crate::entry::Entry;
-use crate::fields::CROSSREF;
-use crate::seen_values::put_crossref;
-use crate::store::Store;
+use crate::heirs::{NewValues, heirs_of, stays_among};
+use crate::kept::Found;
 use crate::stored::{FieldValues, Stored};
+use crate::view::View;
 use bt_text::{Sequence, Shared};
 use std::alloc::{AllocError, Global};
+
+/// The entries that are seen after an edit of one.
+#[derive(Drop)]
+pub struct OtherEntries {
+    /// The new values.
+    pub own: NewValues,
+    /// The entries that are seen.
+    pub entries: Sequence<Entry>,
+    /// Which of them are known to be the same as before.
+    pub stays: Shared<Sequence<bool>>,
+}
 
 /// How an edit changes the entries that are seen.
 #[derive(Drop)]
 pub enum SeenEdit {
-    /// The same are seen.
+    /// It changes none.
     Same,
-    /// Another entry is seen at this place.
-    Other(usize, Entry),
+    /// It may change some: all entries after it, with those that are known to stay.
+    Others(OtherEntries),
 }
 
-/// Where a number is in a list.
-#[derive(Clone, Copy)]
-pub enum Only {
-    Nowhere,
-    At(usize),
-    Often,
-}
-
-fn next_only(only: Only, index: usize, here: bool) -> Only
-    ensures { result ≡ next_only only index here }
-{
-    if !here {
-        return only;
-    }
-    match only {
-        Only::Nowhere => Only::At(index),
-        Only::At(_) => Only::Often,
-        Only::Often => Only::Often,
-    }
-}
-
-fn only_in(places: &[usize], place: usize) -> Only
-    ensures { IsOnly places.now place result }
-{
-    let mut only = Only::Nowhere;
-    'places: for k in 0..places.len() {
-        let other = &places[k];
-        only = next_only(only, k, *other == place);
-    }
-    only
-}
-
-fn without_crossref(
+/// What is seen with new values of a stored entry.
+fn other_entries(
     alloc: Global,
     asked: &Asked<'_>,
-    values: Shared<FieldValues>,
-) -> Result<Shared<FieldValues>, AllocError>
-    ensures { IfOk result (λ fields. fields
-        ≡ with_crossref (place_of_name asked.now.fields crossref) None values) }
+    min: u32,
+    found: &Found,
+    own: NewValues,
+) -> Result<OtherEntries, AllocError>
+    ensures { IfOk result (λ others. others ≡ other_entries asked.now min found.now own) }
 {
-    match asked.fields.place(alloc, CROSSREF)? {
-        None => Ok(values),
-        Some(place) => put_crossref(alloc, place, None, values),
-    }
-}
-
-/// An entry that is seen, with other values of its own and no `crossref`.
-fn with_own(
-    alloc: Global,
-    asked: &Asked<'_>,
-    old: &Entry,
-    values: Shared<FieldValues>,
-) -> Result<Entry, AllocError>
-    ensures { IfOk result (λ seen. seen ≡ with_own asked.now values old.now) }
-{
-    let fields = without_crossref(alloc, asked, values)?;
-    Ok(Entry {
-        key: old.key.share()?,
-        kind: old.kind.share()?,
-        function: old.function,
-        fields,
+    let family = &found.store;
+    let list = found.listed.as_slice();
+    let heirs = heirs_of(alloc, family, list, found.values.as_slice(), &own)?;
+    let view = View {
+        alloc,
+        asked,
+        min,
+        family,
+    };
+    let places = found.places.as_slice();
+    let entries = view.entries_after(&heirs, places, found.all.entries.as_slice())?;
+    let stays = stays_among(alloc, heirs.marks.as_slice(), places)?;
+    Ok(OtherEntries {
+        own,
+        entries,
+        stays,
     })
 }
 
-/// How the style sees the entry that is stored at this place, with these values. None if the list has it twice.
-fn entry_edit(
-    alloc: Global,
-    asked: &Asked<'_>,
-    place: usize,
-    places: &[usize],
-    entries: &[Entry],
-    values: &Shared<FieldValues>,
-) -> Result<Option<SeenEdit>, AllocError>
-    ensures { IfOk result (λ edit. IfSome edit (λ e. IsEntryEdit asked.now place places.now entries.now values.now e)) }
-{
-    match only_in(places, place) {
-        Only::Nowhere => Ok(Some(SeenEdit::Same)),
-        Only::Often => Ok(None),
-        Only::At(k) => {
-            if k >= entries.len() {
-                return Ok(None);
-            }
-            let old = &entries[k];
-            let seen = with_own(alloc, asked, old, values.share()?)?;
-            Ok(Some(SeenEdit::Other(k, seen)))
-        }
-    }
-}
-
-/// What becomes of the entries that are seen, if at most one stored entry replaces another of its skeleton. None if it
-/// refers to another one, another one refers to it, or more than one are stored.
+/// What becomes of the entries that are seen, if at most one stored entry replaces another of its skeleton, which is at
+/// this place. None if more than one are stored.
 pub fn seen_edit(
     alloc: Global,
     asked: &Asked<'_>,
+    min: u32,
     place: usize,
-    places: &[usize],
-    store: &Store,
-    entries: &[Entry],
+    found: &Found,
     stored: &[Stored],
 ) -> Result<Option<SeenEdit>, AllocError>
-    ensures { IfOk result (λ edit. IfSome edit (λ e.
-        IsSeenEdit asked.now place places.now store.now entries.now stored.now e)) }
+    ensures { IfOk result (λ edit. IfSome edit (λ e. IsSeenEdit asked.now min place found.now stored.now e)) }
 {
     if stored.len() == 0 {
         return Ok(Some(SeenEdit::Same));
@@ -132,25 +79,31 @@ pub fn seen_edit(
     if stored.len() > 1 {
         return Ok(None);
     }
-    let entry = &stored[0];
-    if entry.crossref.is_some() {
-        return Ok(None);
-    }
-    let referred = store.refers_to(alloc, entry.key.as_slice())?;
-    if referred {
-        return Ok(None);
-    }
-    let edit = entry_edit(alloc, asked, place, places, entries, &entry.values)?;
-    Ok(edit)
+    let values = stored[0].values.share()?;
+    let others = other_entries(alloc, asked, min, found, NewValues { place, values })?;
+    Ok(Some(SeenEdit::Others(others)))
 }
 
-/// Puts another entry in its place among those that are seen.
-pub fn put_seen(entries: &mut Sequence<Entry>, edit: SeenEdit)
-    requires { IsWithin edit (length entries.old) }
-    ensures { entries.new ≡ with_seen edit entries.old }
+/// Puts the entries that are seen after an edit, and the new values.
+pub fn put_seen(
+    entries: &mut Sequence<Entry>,
+    values: &mut Sequence<Shared<FieldValues>>,
+    edit: SeenEdit,
+)
+    requires { IsWithin edit (length values.old) }
+    ensures entries { entries.new ≡ with_seen edit entries.old }
+    ensures values { values.new ≡ with_own edit values.old }
 {
     match edit {
         SeenEdit::Same => {}
-        SeenEdit::Other(k, entry) => entries.set(k, entry),
+        SeenEdit::Others(others) => {
+            let OtherEntries {
+                own,
+                entries: new,
+                ..
+            } = others;
+            *entries = new;
+            values.set(own.place, own.values);
+        }
     }
 }

@@ -2,7 +2,8 @@
 //!
 //! What is listed, in what order, and what refers to what depends only on the keys, types and `crossref` fields of the
 //! stored entries, their *skeletons*. An edit of other fields leaves all this as it was. Both versions of a `crossref`
-//! are compared by their parts: equal parts have equal values, whatever the macros.
+//! are compared by their parts: equal parts have equal values, whatever the macros. Strings and preambles have to be
+//! equal, since they count for the macros of later items and for the text that `preamble$` pushes.
 
 ghost use Rattle.std.specs.Prelude.{◌≡◌, IsTrue, find, option_copied};
 ghost use Rattle.bt_text.specs.CaseFolding.{is_same_folded};
@@ -10,12 +11,12 @@ ghost use Rattle.bt_resolve.specs.Names.{crossref};
 ghost use Rattle.bt_resolve.specs.Values.{MacroTexts, joined_parts};
 ghost use Rattle.bt_resolve.specs.inner.Cases.{part_text};
 ghost use Rattle.bt_bib.specs.declared.item.Field.{Field as FieldSeen};
-ghost use Rattle.bt_resolve.specs.Skeletons.{HaveOneSkeleton, IsItemLike, PairOff};
+ghost use Rattle.bt_resolve.specs.Skeletons.{HaveOneSkeleton, IsItemLike, IsLike, PairOff, is_entry};
 ghost use Rattle.bt_resolve.specs.inner.Skeletons.{IsPieceLike, text_in};
 
 use crate::entries::kind_of;
 use crate::fields::CROSSREF;
-use bt_bib::{Content, Entry, Field, Item, Part, Piece, PlacedPiece};
+use bt_bib::{Content, Definition, Entry, Field, Item, Part, Piece, PlacedPiece, ValueParts};
 use bt_text::{Bytes, Shared, eq_ignore_ascii_case, equal_bytes};
 
 /// Whether two parts are the same, whatever their lines.
@@ -94,14 +95,83 @@ fn is_same_skeleton(old: &Entry, new: &Entry) -> bool
     is_same_field(was, is)
 }
 
-/// Whether both items are entries of one skeleton. Other items aren't compared.
-fn is_like(old: &Item, new: &Item) -> bool
-    ensures { IsTrue result → IsItemLike old.now new.now }
+/// Whether two parts are the same, with their lines.
+fn is_equal_part(old: &Part, new: &Part) -> bool
+    ensures { IsTrue result → old.now ≡ new.now }
 {
-    match (&old.content, &new.content) {
-        (Content::Entry(old), Content::Entry(new)) => is_same_skeleton(old, new),
+    match (old, new) {
+        (Part::Text(old), Part::Text(new)) => equal_bytes(old.as_slice(), new.as_slice()),
+        (Part::Macro(old, line), Part::Macro(new, stands)) => {
+            equal_bytes(old.as_slice(), new.as_slice()) && *line == *stands
+        }
         _ => false,
     }
+}
+
+fn are_equal_parts(old: &[Part], new: &[Part]) -> bool
+    ensures { IsTrue result → old.now ≡ new.now }
+{
+    if old.len() != new.len() {
+        return false;
+    }
+    'parts: for k in 0..old.len() {
+        if !is_equal_part(&old[k], &new[k]) {
+            return false;
+        }
+    }
+    true
+}
+
+/// Whether two values are equal, or both are missing.
+fn is_equal_value(old: &Option<ValueParts>, new: &Option<ValueParts>) -> bool
+    ensures { IsTrue result → old.now ≡ new.now }
+{
+    match (old, new) {
+        (None, None) => true,
+        (Some(old), Some(new)) => are_equal_parts(old.as_slice(), new.as_slice()),
+        _ => false,
+    }
+}
+
+fn is_equal_string(old: &Definition, new: &Definition) -> bool
+    ensures { IsTrue result → old.now ≡ new.now }
+{
+    is_same_key(&old.name, &new.name) && is_equal_value(&old.value, &new.value)
+}
+
+/// Whether both contents are entries of one skeleton, or equal strings or preambles.
+fn is_like(old: &Content, new: &Content) -> bool
+    ensures { IsTrue result → (m : MacroTexts) → IsLike m old.now new.now }
+{
+    match (old, new) {
+        (Content::Entry(old), Content::Entry(new)) => is_same_skeleton(old, new),
+        (Content::Define(old), Content::Define(new)) => is_equal_string(old, new),
+        (Content::Preamble(old), Content::Preamble(new)) => is_equal_value(old, new),
+        _ => false,
+    }
+}
+
+fn is_entry(content: &Content) -> bool
+    ensures { result ≡ is_entry content.now }
+{
+    match content {
+        Content::Entry(_) => true,
+        Content::Define(_) => false,
+        Content::Preamble(_) => false,
+    }
+}
+
+/// Whether an item can replace another. If it isn't an entry, neither may have a fault.
+fn is_item_like(old: &Item, new: &Item) -> bool
+    ensures { IsTrue result → IsItemLike old.now new.now }
+{
+    if !is_like(&old.content, &new.content) {
+        return false;
+    }
+    if is_entry(&old.content) {
+        return true;
+    }
+    old.fault.is_none() && new.fault.is_none()
 }
 
 fn is_piece_like(old: &Piece, new: &Piece) -> bool
@@ -109,12 +179,12 @@ fn is_piece_like(old: &Piece, new: &Piece) -> bool
 {
     match (old, new) {
         (Piece::Comment, Piece::Comment) => true,
-        (Piece::Item(old), Piece::Item(new)) => is_like(old, new),
+        (Piece::Item(old), Piece::Item(new)) => is_item_like(old, new),
         _ => false,
     }
 }
 
-/// Whether the pieces pair off: entries with entries of the same skeletons, comment words with comment words.
+/// Whether the pieces pair off: entries with entries of the same skeletons, anything else with its equal.
 pub fn pair_off(old: &[PlacedPiece], new: &[PlacedPiece]) -> bool
     ensures { IsTrue result → PairOff old.now new.now }
 {

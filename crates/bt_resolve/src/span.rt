@@ -1,4 +1,4 @@
-//! The entry that an edit brings, read in the place of another.
+//! The item that an edit brings, read in the place of another.
 //!
 //! Whether an entry is stored depends on the keys and `crossref` fields of those before it. An entry of the same
 //! skeleton in the same place is stored exactly if the old one was. So what the old one gave shows whether it is, and
@@ -8,7 +8,7 @@ ghost use Rattle.std.specs.Prelude.{◌≡◌, ◌≤◌, ◌++◌, ◌∷◌, [
 ghost use Rattle.bt_bib.specs.Items.{items_of};
 ghost use Rattle.bt_text.specs.ByName.{known};
 ghost use Rattle.bt_text.specs.NameList.{are_apart};
-ghost use Rattle.bt_resolve.specs.inner.Spans.{is_entry_item, nothing, span_of, stored_if, tells, tells_of, told_if, with_item_by};
+ghost use Rattle.bt_resolve.specs.inner.Spans.{is_entry_item, nothing, span_of, stored_if, tells, tells_of, told_if, with_content_by, with_item_by};
 
 use crate::asked::Asked;
 use crate::faults::tell_fault;
@@ -18,7 +18,7 @@ use crate::reader::Reader;
 use crate::stored::Stored;
 use bt_bib::{Content, Entry, Item, Piece, PlacedPiece, Spot};
 use bt_log::Message;
-use bt_text::{ByName, Sequence};
+use bt_text::{ByName, Bytes, Sequence};
 use std::alloc::{AllocError, Global};
 
 /// What an item gave when it was read: whether it is an entry that was stored, and how many messages came.
@@ -78,6 +78,29 @@ impl Reader<'_> {
         Ok(())
     }
 
+    fn content_by(
+        &self,
+        mark: Mark,
+        item: &Item,
+        macros: &ByName<MacroText>,
+        span: &mut Span,
+    ) -> Result<(), AllocError>
+        requires { IsTrue (are_apart self.now.asked.now.fields) }
+        ensures { OnOk result (span.new
+            ≡ with_content_by self.now.asked.now (known macros.now) mark self.now.origin item.now span.old) }
+    {
+        match &item.content {
+            Content::Entry(entry) => self.entry_by(mark.stored, item.line, entry, macros, span),
+            Content::Define(string) => {
+                self.tell_string(item, string, macros, &mut span.messages)
+            }
+            Content::Preamble(parts) => {
+                let mut joined = Bytes::new(self.alloc);
+                self.preamble(item, parts, macros, &mut joined, &mut span.messages)
+            }
+        }
+    }
+
     fn item_by(
         &self,
         mark: Mark,
@@ -90,10 +113,7 @@ impl Reader<'_> {
         ensures { OnOk result (span.new
             ≡ with_item_by self.now.asked.now (known macros.now) mark self.now.origin end item.now span.old) }
     {
-        let Content::Entry(entry) = &item.content else {
-            return Ok(());
-        };
-        self.entry_by(mark.stored, item.line, entry, macros, span)?;
+        self.content_by(mark, item, macros, span)?;
         tell_fault(
             self.alloc,
             self.origin.database,
@@ -114,7 +134,7 @@ fn is_entry_item(item: &Item) -> bool
     }
 }
 
-/// Reads the piece that replaces one with this mark. None if it isn't an entry, or the mark doesn't show whether it is
+/// Reads the piece that replaces one with this mark. None if it is an entry and the mark doesn't show whether it is
 /// wanted.
 fn piece_by(
     alloc: Global,
@@ -133,7 +153,7 @@ fn piece_by(
     let Piece::Item(item) = &*piece.piece else {
         return Ok(Some(span));
     };
-    if !is_entry_item(item) || !tells(mark) {
+    if is_entry_item(item) && !tells(mark) {
         return Ok(None);
     }
     let reader = Reader {
@@ -148,8 +168,8 @@ fn piece_by(
     Ok(Some(span))
 }
 
-/// Reads at most one piece of a database in the place of one with this mark. None if it isn't an entry, or the mark
-/// doesn't show whether it is wanted.
+/// Reads at most one piece of a database in the place of one with this mark. None if it is an entry and the mark doesn't
+/// show whether it is wanted.
 pub fn read_span(
     alloc: Global,
     asked: &Asked<'_>,

@@ -1,16 +1,18 @@
 //! The entries that the style sees.
 
-ghost use Rattle.std.specs.Prelude.{◌≡◌, ◌++◌, ◌∷◌, [], IfOk, OnOk};
+ghost use Rattle.std.specs.Prelude.{◌≡◌, ◌++◌, ◌∷◌, [], slice_get, IfOk, OnOk};
 ghost use Rattle.bt_resolve.specs.Inherited.{entry_seen, final_crossref, is_left_out};
 ghost use Rattle.bt_resolve.specs.inner.Cases.{entry_at, with_crossref};
 ghost use Rattle.bt_resolve.specs.Names.{crossref, place_of_name};
 ghost use Rattle.bt_resolve.specs.Listed.{listed};
+ghost use Rattle.bt_resolve.specs.inner.Heirs.{entries_after, is_marked, made_at, made_if};
 ghost use Rattle.bt_resolve.specs.inner.Inheritance.{entries_at, seen_of, shown_among};
 
 use crate::asked::Asked;
 use crate::entry::Entry;
 use crate::family::Family;
 use crate::fields::CROSSREF;
+use crate::heirs::{Heirs, is_marked};
 use crate::inheritance::{all_inherit, shared, values_read};
 use crate::list::is_cited_at;
 use crate::references::spelled;
@@ -22,8 +24,25 @@ use std::alloc::{AllocError, Global};
 /// The entries that the style sees, and their places among the stored ones.
 #[derive(Drop)]
 pub struct Seen {
+    /// The places of the whole list, with the entries that are left out.
+    pub listed: Sequence<usize>,
     pub places: Sequence<usize>,
     pub entries: Sequence<Entry>,
+}
+
+/// The entry at an index, shared.
+fn shared_entry(entries: &[Entry], index: usize) -> Result<Option<Entry>, AllocError>
+    ensures { IfOk result (λ same. same ≡ slice_get entries.now index) }
+{
+    match entries.get(index) {
+        None => Ok(None),
+        Some(entry) => Ok(Some(Entry {
+            key: entry.key.share()?,
+            kind: entry.kind.share()?,
+            function: entry.function,
+            fields: entry.fields.share()?,
+        })),
+    }
 }
 
 /// The stored entries, for a style with these citations.
@@ -33,7 +52,7 @@ pub struct View<'a> {
     pub asked: &'a Asked<'a>,
     /// The least number of references.
     pub min: u32,
-    pub family: &'a Family<'a>,
+    pub family: &'a Family,
 }
 
 impl View<'_> {
@@ -168,16 +187,55 @@ impl View<'_> {
         Ok(entries)
     }
 
+    /// The entry at a place after an edit: made anew if it is an heir, and else the old one at an index.
+    fn entry_after(
+        &self,
+        heirs: &Heirs,
+        place: usize,
+        old: &[Entry],
+        index: usize,
+    ) -> Result<Option<Entry>, AllocError>
+        ensures { IfOk result (λ seen. seen ≡ made_if (is_marked heirs.now.marks place)
+            (made_at self.now.asked.now self.now.min self.now.family.now heirs.now.values place)
+            (slice_get old.now index)) }
+    {
+        if is_marked(heirs.marks.as_slice(), place) {
+            let values = shared_at(self.alloc, heirs.values.as_slice(), place)?;
+            self.entry_at(values, place)
+        } else {
+            shared_entry(old, index)
+        }
+    }
+
+    /// The entries at these places after an edit, given those before.
+    pub fn entries_after(
+        &self,
+        heirs: &Heirs,
+        places: &[usize],
+        old: &[Entry],
+    ) -> Result<Sequence<Entry>, AllocError>
+        ensures { IfOk result (λ entries. entries ≡ entries_after self.now heirs.now places.now old.now) }
+    {
+        let mut entries = Sequence::new(self.alloc);
+        'places: for k in 0..places.len() {
+            let entry = self.entry_after(heirs, places[k], old, k)?;
+            entries.push_if_any(entry)?;
+        }
+        Ok(entries)
+    }
+
     /// The entries that the style sees, of the list of entries at these places.
-    pub fn seen_of_list(&self, places: &[usize]) -> Result<Seen, AllocError>
-        requires { places.now ≡ listed self.now.asked.now self.now.family.now }
+    pub fn seen_of_list(&self, places: Vec<usize>) -> Result<Seen, AllocError>
+        requires { places.items ≡ listed self.now.asked.now self.now.family.now }
         ensures { IfOk result (λ seen. seen ≡ seen_of self.now.asked.now self.now.min self.now.family.now) }
     {
         let mut values = values_read(self.alloc, self.family.entries())?;
-        all_inherit(self.alloc, self.family, places, &mut values)?;
-        let shown = self.shown_among(places)?;
+        let list = places.as_slice();
+        all_inherit(self.alloc, self.family, list, &mut values)?;
+        let shown = self.shown_among(list)?;
         let entries = self.entries_at(values.as_slice(), shown.as_slice())?;
         Ok(Seen {
+            listed: Sequence::from_vec(places),
             places: shown,
             entries,
         })

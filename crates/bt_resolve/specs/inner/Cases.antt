@@ -1,5 +1,5 @@
 -- Parts of rules, for the functions and lemmas that are about them.
-use Rattle.std.specs.Prelude.{ℕ, Bool, true, false, ◌||◌, not, ◌&&◌, ◌==◌, nat_lt, List, [], ◌∷◌, ◌++◌, length, map, filter, filter_map, slice_get, slice_set, codes, Option, Some, None, is_some, option_map, option_and_then, unwrap_or, if◌then◌else◌, take, ◌+◌, count_by}
+use Rattle.std.specs.Prelude.{ℕ, Bool, true, false, ◌||◌, not, ◌&&◌, ◌==◌, nat_lt, List, [], ◌∷◌, ◌++◌, length, map, filter, filter_map, slice_get, slice_set, codes, Option, Some, None, is_some, option_map, option_and_then, unwrap_or, if◌then◌else◌, take, count_by}
 use Rattle.std.specs.List.{list_any, range_with_len}
 use Rattle.bt_text.specs.ByName.{with_value}
 use Rattle.bt_text.specs.CaseFolding.{is_same_folded}

@@ -1,5 +1,5 @@
 -- How reading one more item changes what was read so far.
-use Rattle.std.specs.Prelude.{ℕ, ◌+◌, List, [], ◌∷◌, ◌++◌}
+use Rattle.std.specs.Prelude.{◌≡◌, ℕ, ◌+◌, List, [], ◌∷◌, ◌++◌}
 use Rattle.bt_bib.specs.declared.item.Item.{Item}
 use Rattle.bt_bib.specs.declared.spot.Spot.{Spot}
 use Rattle.bt_bib.specs.Items.{PlacedItem}
@@ -43,6 +43,15 @@ after_item a origin end item s =
 
 abbrev pub after_placed : Asked → ℕ → PlacedItem → State → State
 after_placed a database placed s = after_item a (origin_of database placed) placed.end placed.item s
+
+-- the macros after items
+abbrev pub macros_after : MacroTexts → List PlacedItem → MacroTexts
+macros_after macros [] = macros
+macros_after macros (placed ∷ items) = macros_after (with_content placed.item.fault placed.item.content macros) items
+
+-- items without strings leave the macros as they are
+abbrev pub DefineNothing : List PlacedItem → Type 0
+DefineNothing items = (macros : MacroTexts) → macros_after macros items ≡ macros
 
 -- after the items of a database
 abbrev pub after_items : Asked → ℕ → State → List PlacedItem → State

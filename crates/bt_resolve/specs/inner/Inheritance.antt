@@ -6,6 +6,7 @@ use Rattle.bt_resolve.specs.declared.stored.Stored.{Stored}
 use Rattle.bt_resolve.specs.declared.asked.Asked.{Asked}
 use Rattle.bt_resolve.specs.declared.view.Seen.{Seen}
 use Rattle.bt_resolve.specs.declared.view.View.{View}
+use Rattle.bt_resolve.specs.Listed.{listed}
 use Rattle.bt_resolve.specs.Inherited.{inherited, is_left_out, entries_seen}
 use Rattle.bt_resolve.specs.Skeletons.{shown}
 use Rattle.bt_resolve.specs.inner.Cases.{entry_at, parent_at}
@@ -41,4 +42,4 @@ entries_with v values places = entries_at v values (shown_among v places)
 
 -- what the style sees, with its places
 abbrev pub seen_of : Asked → ℕ → List Stored → Seen
-seen_of a min stored = record { places = shown a min stored; entries = entries_seen a min stored }
+seen_of a min stored = record { listed = listed a stored; places = shown a min stored; entries = entries_seen a min stored }

@@ -1,10 +1,7 @@
 -- What a kept resolution is about, what it has, and how an edit changes it.
-use Rattle.std.specs.Prelude.{◌≡◌, ◌≢◌, ℕ, ◌+◌, ◌-◌, ◌<◌, ◌≤◌, nat_lt, Bool, true, false, IsTrue, ⊤, List, [], ◌∷◌, length, map, take, drop, reverse, slice_get, slice_set, Option, Some, None}
-use Rattle.std.specs.List.{AllByRecursion}
+use Rattle.std.specs.Prelude.{◌≡◌, ℕ, ◌+◌, ◌-◌, ◌<◌, ◌≤◌, nat_lt, true, IsTrue, ⊤, List, [], ◌∷◌, length, map, take, drop, reverse, ◌++◌, slice_get, slice_set, Option, Some}
 use Rattle.bt_bib.specs.Items.{PlacedItem, items_of}
 use Rattle.bt_bib.specs.Splice.{IsItemsEdit}
-use Rattle.bt_bib.specs.declared.item.Piece.{Piece}
-use Rattle.bt_bib.specs.declared.item.Piece.TheVariants as pieces
 use Rattle.bt_bib.specs.declared.placed_pieces.PlacedPiece.{PlacedPiece}
 use Rattle.bt_bib.specs.declared.splice.ItemsEdit.{ItemsEdit}
 use Rattle.bt_text.specs.ByName.{known}
@@ -18,21 +15,23 @@ use Rattle.bt_resolve.specs.declared.kept.ResolvedEdit.{ResolvedEdit}
 use Rattle.bt_resolve.specs.declared.question.Question.{Question}
 use Rattle.bt_resolve.specs.declared.reading.Reach.{Reach}
 use Rattle.bt_resolve.specs.declared.reading.Reading.{Reading}
-use Rattle.bt_resolve.specs.declared.seen_edit.Only.{Only}
-use Rattle.bt_resolve.specs.declared.seen_edit.Only.TheVariants.{Nowhere, At, Often}
+use Rattle.bt_resolve.specs.declared.heirs.NewValues.{NewValues}
+use Rattle.bt_resolve.specs.declared.seen_edit.OtherEntries.{OtherEntries}
 use Rattle.bt_resolve.specs.declared.seen_edit.SeenEdit.{SeenEdit}
-use Rattle.bt_resolve.specs.declared.seen_edit.SeenEdit.TheVariants.{Same, Other}
+use Rattle.bt_resolve.specs.declared.seen_edit.SeenEdit.TheVariants.{Same, Others}
 use Rattle.bt_resolve.specs.declared.span.Mark.{Mark}
 use Rattle.bt_resolve.specs.declared.span.Span.{Span}
 use Rattle.bt_resolve.specs.declared.stored.Stored.{Stored}
 use Rattle.bt_resolve.specs.declared.view.Seen.{Seen}
+use Rattle.bt_resolve.specs.Listed.{listed}
 use Rattle.bt_resolve.specs.Macros.{macro_before}
-use Rattle.bt_resolve.specs.Names.{crossref, place_of_name}
 use Rattle.bt_resolve.specs.Resolved.{all_items, resolved, stored_entries}
-use Rattle.bt_resolve.specs.Skeletons.{AreAlike, PairOff, is_string, shown}
+use Rattle.bt_resolve.specs.Skeletons.{AreAlike, PairOff, shown}
 use Rattle.bt_resolve.specs.Values.{MacroTexts}
-use Rattle.bt_resolve.specs.inner.Cases.{asked, is_referred_to, with_crossref}
+use Rattle.bt_resolve.specs.inner.Cases.{asked}
 use Rattle.bt_resolve.specs.inner.Databases.{nothing_read}
+use Rattle.bt_resolve.specs.inner.Heirs.{entries_made, heirs_of, is_marked, made_at, stays_among}
+use Rattle.bt_resolve.specs.inner.Inheritance.{values_read}
 use Rattle.bt_resolve.specs.inner.Patches.{patched}
 use Rattle.bt_resolve.specs.inner.Reaches.{database_reaches}
 use Rattle.bt_resolve.specs.inner.Spans.{span_of, tells_of}
@@ -62,11 +61,13 @@ reaches_for q = database_reaches (asked_by q) 1 (nothing_read q.declared.macros)
 abbrev pub places_for : Question → List ℕ
 places_for q = shown (asked_by q) q.min (stored_for q)
 
--- what is kept for a question; the values of the stored entries may be older ones
+-- what is kept for a question; the stored entries may have older values, but `values` are right
 pub record IsFound (q : Question) (f : Found) : Type 0 where
   pub fields_apart : IsTrue (are_apart q.declared.fields)
   pub macros_known : known f.macros ≡ macros_behind q
   pub stored_alike : AreAlike f.store (stored_for q)
+  pub values_read : f.values ≡ values_read (stored_for q)
+  pub list : f.listed ≡ listed (asked_by q) (stored_for q)
   pub reached : f.reaches ≡ reaches_for q
   pub placed : f.places ≡ places_for q
   pub resolved_so : f.all ≡ resolved_for q
@@ -75,6 +76,8 @@ abbrev pub found_of : Reading → List (List Reach) → Seen → Found
 found_of read reaches seen = record {
   macros = read.macros;
   store = read.store;
+  values = values_read read.store;
+  listed = seen.listed;
   reaches = reaches;
   places = seen.places;
   all = record { entries = seen.entries; preamble = read.preamble; messages = read.messages };
@@ -92,24 +95,29 @@ pub record IsEditOf (q : Question) (number : ℕ) (pieces : List PlacedPiece) (e
   pub here : slice_get q.databases number ≡ Some old
   pub edit : IsItemsEdit old pieces e
 
+-- a place among the pieces of the database of this number
+pub record IsPlace (q : Question) (number before : ℕ) : Type 0 where
+  pub pieces : List PlacedPiece
+  pub here : slice_get q.databases number ≡ Some pieces
+  pub inside : before ≤ length pieces
+
+-- the macros before the items from such a place on
+abbrev pub macros_ahead : Question → ℕ → ℕ → List PlacedPiece → MacroTexts
+macros_ahead q number before ps =
+    macro_before q.declared.macros (reverse (items_of (take before ps)) ++ reverse (all_items (map items_of (take number q.databases))))
+
+abbrev pub AreAhead : Question → ℕ → ℕ → MacroTexts → Type 0
+AreAhead q number before macros =
+    (ps : List PlacedPiece) → slice_get q.databases number ≡ Some ps → macros ≡ macros_ahead q number before ps
+
 abbrev pub replaced : List PlacedPiece → ItemsEdit → List PlacedPiece
 replaced old e = take (e.upto - e.before) (drop e.before old)
 
-abbrev pub is_define : Piece → Bool
-is_define pieces.Comment = false
-is_define (pieces.Item item) = is_string item.content
-
--- none of these items is a string
-abbrev pub NoStrings : List PlacedItem → Type 0
-NoStrings items = AllByRecursion (λ (x : PlacedItem). is_string x.item.content ≡ false) items
-
--- At most one entry is replaced, by one of the same skeleton, and no string follows it.
-pub record IsShort (old : List PlacedPiece) (later : List (List PlacedPiece)) (e : ItemsEdit) : Type 0 where
+-- At most one piece is replaced, by one that is like it.
+pub record IsShort (old : List PlacedPiece) (e : ItemsEdit) : Type 0 where
   pub few : length e.new ≤ 1
   pub even : length (replaced old e) ≡ length e.new
   pub pairs : PairOff (replaced old e) e.new
-  pub plain : NoStrings (items_of (drop e.before old))
-  pub plain_later : NoStrings (all_items (map items_of later))
 
 -- how far the reading was before the span, after it, and at the end of the database
 pub record IsAround (reaches : List Reach) (before upto : ℕ) (r : Around) : Type 0 where
@@ -121,76 +129,62 @@ pub record IsAround (reaches : List Reach) (before upto : ℕ) (r : Around) : Ty
 abbrev pub mark_of : Around → Mark
 mark_of r = record { stored = nat_lt r.first.stored r.past.stored; told = r.past.told - r.first.told }
 
--- ---- the entry that is seen
+-- ---- the entries that are seen
 
 abbrev pub with_seen : SeenEdit → List Entry → List Entry
 with_seen Same es = es
-with_seen (Other k e) es = slice_set es k e
+with_seen (Others o) es = o.entries
+
+-- the stored entries' own values after an edit
+abbrev pub with_own : SeenEdit → List (List (Option (List ℕ))) → List (List (Option (List ℕ)))
+with_own Same values = values
+with_own (Others o) values = slice_set values o.own.place o.own.values
 
 abbrev pub IsWithin : SeenEdit → ℕ → Type 0
 IsWithin Same n = ⊤
-IsWithin (Other k e) n = k < n
+IsWithin (Others o) n = o.own.place < n
 
--- an entry that is seen, with other values of its own and no `crossref`
-abbrev pub with_own : Asked → List (Option (List ℕ)) → Entry → Entry
-with_own a values e = record e { fields = with_crossref (place_of_name a.fields crossref) None values }
+-- The entry at an index is known to be the same after an edit.
+abbrev pub IsSpared : SeenEdit → ℕ → Type 0
+IsSpared Same k = ⊤
+IsSpared (Others o) k = slice_get o.stays k ≡ Some true
 
-abbrev pub next_only : Only → ℕ → Bool → Only
-next_only only k false = only
-next_only Nowhere k true = At k
-next_only (At j) k true = Often
-next_only Often k true = Often
+-- what is seen with new values of a stored entry
+abbrev pub other_entries : Asked → ℕ → Found → NewValues → OtherEntries
+other_entries a min f own =
+    let heirs = heirs_of f.store f.listed f.values own in record {
+      own = own;
+      entries = entries_made (made_at a min f.store heirs.values) (is_marked heirs.marks) f.places f.all.entries;
+      stays = stays_among heirs.marks f.places;
+    }
 
--- where a place is among the first n of some places
-pub record IsOnlyAt (places : List ℕ) (place n k : ℕ) : Type 0 where
-  pub less : k < n
-  pub at : slice_get places k ≡ Some place
-  pub others : (i : ℕ) → i < n → k ≢ i → slice_get places i ≢ Some place
+abbrev pub new_values : ℕ → Stored → NewValues
+new_values place t = record { place = place; values = t.values }
 
-abbrev pub DescribesUpTo : List ℕ → ℕ → ℕ → Only → Type 0
-DescribesUpTo places place n Nowhere = (i : ℕ) → i < n → slice_get places i ≢ Some place
-DescribesUpTo places place n (At k) = IsOnlyAt places place n k
-DescribesUpTo places place n Often = ⊤
-
-abbrev pub IsOnly : List ℕ → ℕ → Only → Type 0
-IsOnly places place only = DescribesUpTo places place (length places) only
-
-pub record IsOther (a : Asked) (place : ℕ) (places : List ℕ) (entries : List Entry) (values : List (Option (List ℕ))) (k : ℕ) (seen : Entry) : Type 0 where
-  pub only : IsOnlyAt places place (length places) k
-  pub old : Entry
-  pub here : slice_get entries k ≡ Some old
-  pub is : seen ≡ with_own a values old
-
-abbrev pub IsEntryEdit : Asked → ℕ → List ℕ → List Entry → List (Option (List ℕ)) → SeenEdit → Type 0
-IsEntryEdit a place places entries values Same = DescribesUpTo places place (length places) Nowhere
-IsEntryEdit a place places entries values (Other k seen) = IsOther a place places entries values k seen
-
--- the stored entry t refers to none, and none refers to it
-pub record IsAlone (store : List Stored) (t : Stored) : Type 0 where
-  pub own : t.crossref ≡ None
-  pub none : is_referred_to store t.key ≡ false
-
-abbrev pub IsSeenEdit : Asked → ℕ → List ℕ → List Stored → List Entry → List Stored → SeenEdit → Type 0
-IsSeenEdit a place places store entries [] e = e ≡ Same
-IsSeenEdit a place places store entries (t ∷ []) e = IsAlone store t × IsEntryEdit a place places entries t.values e
-IsSeenEdit a place places store entries (t ∷ u ∷ ts) e = ⊥
+abbrev pub IsSeenEdit : Asked → ℕ → ℕ → Found → List Stored → SeenEdit → Type 0
+IsSeenEdit a min place f [] e = e ≡ Same
+IsSeenEdit a min place f (t ∷ []) e = e ≡ Others (other_entries a min f (new_values place t))
+IsSeenEdit a min place f (t ∷ u ∷ ts) e = ⊥
 
 -- ---- what an edit changes
 
 abbrev pub span_by : Asked → MacroTexts → ℕ → Around → ItemsEdit → Span
 span_by a macros number r e = span_of a macros (number + 1) (mark_of r) (items_of e.new)
 
-pub record IsSpanEdit (a : Asked) (f : Found) (number : ℕ) (e : ItemsEdit) (r : Around) (made : ResolvedEdit) : Type 0 where
+pub record IsNewSpan (a : Asked) (macros : MacroTexts) (number : ℕ) (e : ItemsEdit) (r : Around) (span : Span) : Type 0 where
+  pub is : span ≡ span_by a macros number r e
   pub known_of : IsTrue (tells_of (mark_of r) (items_of e.new))
-  pub count : length (span_by a (known f.macros) number r e).messages ≡ (mark_of r).told
-  pub seen : IsSeenEdit a r.first.stored f.places f.store f.all.entries (span_by a (known f.macros) number r e).stored made.seen
-  pub told : made.messages ≡ patched f.all.messages r.first.told r.past.told r.last.told
-      (span_by a (known f.macros) number r e).messages e.stood e.stand
+  pub count : length span.messages ≡ (mark_of r).told
+
+pub record IsSpanEdit (a : Asked) (min : ℕ) (f : Found) (span : Span) (e : ItemsEdit) (r : Around) (made : ResolvedEdit) : Type 0 where
+  pub seen : IsSeenEdit a min r.first.stored f span.stored made.seen
+  pub told : made.messages ≡ patched f.all.messages r.first.told r.past.told r.last.told span.messages e.stood e.stand
 
 -- what stays as it was
 pub record AreKept (q r : Question) : Type 0 where
   pub macros : macros_behind q ≡ macros_behind r
   pub alike : AreAlike (stored_for q) (stored_for r)
+  pub list : listed (asked_by q) (stored_for q) ≡ listed (asked_by r) (stored_for r)
   pub reaches : reaches_for q ≡ reaches_for r
   pub places : places_for q ≡ places_for r
   pub preamble : (resolved_for q).preamble ≡ (resolved_for r).preamble
@@ -198,7 +192,10 @@ pub record AreKept (q r : Question) : Type 0 where
 -- an edit of what is resolved, once the database of this number has these pieces
 pub record IsResolvedEdit (q : Question) (number : ℕ) (pieces : List PlacedPiece) (made : ResolvedEdit) : Type 0 where
   pub database : number < length q.databases
-  pub place : IsWithin made.seen (length (resolved_for q).entries)
+  pub place : IsWithin made.seen (length (stored_for q))
   pub entries : (resolved_for (with_database number pieces q)).entries ≡ with_seen made.seen (resolved_for q).entries
+  pub spared : (k : ℕ) → IsSpared made.seen k →
+      slice_get (resolved_for q).entries k ≡ slice_get (resolved_for (with_database number pieces q)).entries k
+  pub values : values_read (stored_for (with_database number pieces q)) ≡ with_own made.seen (values_read (stored_for q))
   pub messages : (resolved_for (with_database number pieces q)).messages ≡ made.messages
   pub kept : AreKept q (with_database number pieces q)

@@ -24,5 +24,7 @@ returns c =
     (ap (λ x. x.reaches) made ∙ c.in_ok-reaches.ensures.reaches ∙ ap (λ (ds : List (List PlacedPiece)). database_reaches a 1 before ds) pieces)
     (ap (λ x. known x.macros) made)
     (ap (λ x. x.store) made)
+    (ap (λ x. x.values) made)
+    (ap (λ x. x.listed) made)
     (ap (λ x. x.places) made)
     (ap (λ x. x.all) made)

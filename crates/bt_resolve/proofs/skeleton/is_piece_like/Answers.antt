@@ -7,4 +7,4 @@ use Rattle.bt_resolve.proofs.skeleton.is_piece_like.Goals as goal
 pub returns-in-Item-Item : goal.returns-in-Item-Item
 returns-in-Item-Item c = λ go.
     subst (λ (x : Piece). IsPieceLike x c.args.new.now) (sym c.in-Item-Item.is-0)
-    (subst (λ (y : Piece). IsPieceLike (pieces.Item c.in-Item-Item.old) y) (sym c.in-Item-Item.is-1) (c.is_like.ensures go))
+    (subst (λ (y : Piece). IsPieceLike (pieces.Item c.in-Item-Item.old) y) (sym c.in-Item-Item.is-1) (c.is_item_like.ensures go))

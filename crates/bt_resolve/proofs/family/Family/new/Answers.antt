@@ -10,5 +10,5 @@ invariant_of-result c = record {
   counts_known = λ p.
       c.in_ok-counts.ensures p
       ∙ ap (λ (parents : List (Option ℕ)). count_by (is_place p) parents) (c.as_slice.ensures.value ∙ c.in_ok-parents.ensures)
-      ∙ count_map (is_place p) (parent_of c.args.store.now) c.args.store.now;
+      ∙ count_map (is_place p) (parent_of c.args.store) c.args.store;
 }

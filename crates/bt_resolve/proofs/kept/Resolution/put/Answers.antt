@@ -1,15 +1,20 @@
-use Rattle.std.proofs.Common.{◌∙◌, ap, sym, subst, List, length, ◌<◌}
+use Rattle.std.proofs.Common.{◌≡◌, ◌∙◌, ap, sym, subst, ℕ, List, Option, length, ◌<◌}
+use Rattle.std.proofs.lemmas.List.{length-map}
 use Rattle.bt_bib.specs.declared.placed_pieces.PlacedPiece.{PlacedPiece}
-use Rattle.bt_resolve.specs.declared.entry.Entry.{Entry}
-use Rattle.bt_resolve.specs.declared.entry.Resolved.{Resolved}
+use Rattle.bt_resolve.specs.declared.stored.Stored.{Stored}
 use Rattle.bt_resolve.specs.declared.question.Question.{Question}
-use Rattle.bt_resolve.specs.inner.Kept.{IsFound, IsResolvedEdit, IsWithin, resolved_for, with_database}
+use Rattle.bt_resolve.specs.inner.Kept.{IsFound, IsResolvedEdit, IsWithin, stored_for, with_database}
 use Rattle.bt_resolve.proofs.KeptLemmas.{put_is}
 use Rattle.bt_resolve.proofs.kept.Resolution.put.Goals as goal
 
 pub put_seen-requires : goal.put_seen-requires
 put_seen-requires c =
-    subst (λ (es : List Entry). IsWithin c.args.edit.seen (length es)) (sym (ap (λ (x : Resolved). x.entries) (c.self.invariant.resolved_so ∙ ap resolved_for c.self.view_is))) c.requires.place
+    let q = c.self.inside.question in
+    let count : length (stored_for c.args.self.now) ≡ length c.self.inside.found.values =
+    ap (λ (r : Question). length (stored_for r)) (sym c.self.view_is)
+    ∙ sym (length-map (stored_for q) (λ (s : Stored). s.values))
+    ∙ ap (λ (vs : List (List (Option (List ℕ)))). length vs) (sym c.self.invariant.values_read) in
+    subst (λ (n : ℕ). IsWithin c.args.edit.seen n) count c.requires.place
 
 pub set-requires : goal.set-requires
 set-requires c = subst (λ (q : Question). c.args.number < length q.databases) (sym c.self.view_is) c.requires.database
@@ -20,9 +25,9 @@ invariant_of-self c =
     let f = c.self.inside.found in
     let made = c.args.edit in
     let is = subst (λ (k : Question). IsResolvedEdit k c.args.number c.args.items made) (sym c.self.view_is) c.requires in
-    let g = record f { all = record f.all { entries = c.put_seen.new.entries; messages = made.messages } } in
+    let g = record f { values = c.put_seen.new.values; all = record f.all { entries = c.put_seen.new.entries; messages = made.messages } } in
     subst (λ (ds : List (List PlacedPiece)). IsFound (record q { databases = ds }) g) (sym c.set.ensures)
-    (put_is q c.args.number c.args.items made f g c.self.invariant is (ap (λ (es : List Entry). record f { all = record f.all { entries = es; messages = made.messages } }) c.put_seen.ensures))
+    (put_is q c.args.number c.args.items made f g c.self.invariant is (λ j. record f { values = c.put_seen.ensures.values j; all = record f.all { entries = c.put_seen.ensures.entries j; messages = made.messages } }))
 
 pub returns : goal.returns
 returns c = ap (λ (ds : List (List PlacedPiece)). record c.self.inside.question { databases = ds }) c.set.ensures ∙ ap (with_database c.args.number c.args.items) c.self.view_is

@@ -8,13 +8,16 @@ pub returns : goal.returns
 returns c =
     let v = c.args.self.now in
     let stored = v.family.now in
-    let places = c.args.places.now in
+    let places = c.args.places.items in
+    let list : c.as_slice-list.result.now ≡ places = c.as_slice-list.ensures.value in
     let values : c.as_slice.result.now ≡ all_inherit stored (values_read stored) places =
     c.as_slice.ensures.value ∙ c.in_ok-all_inherit.ensures
-    ∙ ap (λ (vs : List (List (Option (List ℕ)))). all_inherit stored vs places) (c.in_ok-values.ensures ∙ ap (λ (entries : List Stored). values_read entries) c.entries.ensures) in
-    let shown : c.as_slice-2.result.now ≡ shown_among v places = c.as_slice-2.ensures ∙ c.in_ok-shown.ensures in
+    ∙ ap (λ (vs : List (List (Option (List ℕ)))). all_inherit stored vs c.as_slice-list.result.now) (c.in_ok-values.ensures ∙ ap (λ (entries : List Stored). values_read entries) c.entries.ensures)
+    ∙ ap (all_inherit stored (values_read stored)) list in
+    let shown : c.in_ok-shown.shown ≡ shown_among v places = c.in_ok-shown.ensures ∙ ap (shown_among v) list in
     let seen = entries_are v.asked.now v.min stored places (all_inherit stored (values_read stored) places) c.requires refl in
     λ j. record {
-      places = (c.in_ok-shown.ensures ∙ ap (shown_among v) c.requires) j;
-      entries = (c.in_ok-entries.ensures ∙ (λ k. entries_at v (values k) (shown k)) ∙ seen) j;
+      listed = (c.from_vec.ensures ∙ c.requires) j;
+      places = (shown ∙ ap (shown_among v) c.requires) j;
+      entries = (c.in_ok-entries.ensures ∙ (λ k. entries_at v (values k) ((c.as_slice-2.ensures ∙ shown) k)) ∙ seen) j;
     }
