@@ -1,6 +1,6 @@
 -- What is known of the entries that READ found.
-use Rattle.std.specs.Prelude.{slice_set, IsTrue}
-use Rattle.std.proofs.Common.{◌≡◌, ◌≢◌, refl, sym, ap, ◌∙◌, subst, ℕ, zero, suc, List, [], ◌∷◌, map, Option, Some, None}
+use Rattle.std.specs.Prelude.{slice_get, slice_set, IsTrue}
+use Rattle.std.proofs.Common.{◌≡◌, refl, sym, ap, ◌∙◌, subst, ℕ, zero, suc, List, [], ◌∷◌, map, Option, Some, None}
 use Rattle.bt_style.specs.Program.{Program}
 use Rattle.bt_bib.specs.BibText.{pieces_of}
 use Rattle.bt_bib.specs.declared.placed_pieces.PlacedPiece.{PlacedPiece}
@@ -9,45 +9,48 @@ use Rattle.bt_resolve.specs.declared.entry.Entry.{Entry as FoundEntry}
 use Rattle.bt_resolve.specs.declared.entry.Resolved.{Resolved}
 use Rattle.bt_resolve.specs.declared.question.Question.{Question}
 use Rattle.bt_resolve.specs.declared.seen_edit.SeenEdit.{SeenEdit}
-use Rattle.bt_resolve.specs.declared.seen_edit.SeenEdit.TheVariants.{Same, Other}
+use Rattle.bt_resolve.specs.declared.seen_edit.SeenEdit.TheVariants.{Same, Others}
 use Rattle.bt_resolve.specs.declared.kept.ResolvedEdit.{ResolvedEdit}
-use Rattle.bt_resolve.specs.inner.Kept.{IsResolvedEdit, resolved_for, with_database, with_seen}
+use Rattle.bt_resolve.specs.inner.Kept.{IsResolvedEdit, IsSpared, resolved_for, with_database}
 use Rattle.bt_run.specs.declared.alike.Alike.{Alike}
 use Rattle.bt_run.specs.declared.alike.Alike.TheVariants as Alikes
 use Rattle.bt_run.specs.declared.asking.Asking.{Asking}
 use Rattle.bt_run.specs.declared.course.Course.{Course}
 use Rattle.bt_run.specs.declared.kept_resolution.KeptResolution.{KeptResolution}
 use Rattle.bt_run.specs.ReadCommand.{Job, found_for, read, with_blank_variables}
-use Rattle.bt_run.specs.inner.Alike.{AreAlike, AreAsked, AreFound, IsAlike, Stays, alike_after, found_at, is_known}
+use Rattle.bt_run.specs.inner.Alike.{AreAlike, AreAsked, AreFound, IsAlike, Stays, alike_after, found_at, found_fixed, is_known}
 use Rattle.bt_run.specs.inner.Asked.{question_for, question_of, with_databases}
-use Rattle.bt_run.specs.inner.Earlier.{fixed_at}
+use Rattle.bt_run.specs.inner.Earlier.{fixed, fixed_at}
 use Rattle.bt_run.specs.inner.Found.{IsAbout, IsKept}
 use Rattle.bt_run.proofs.FindingLemmas.{put_texts, resolved_is}
 
--- an edit leaves all entries but one
+-- an edit leaves the entries that it spares
 
-other_stays : (es : List FoundEntry) (k n : ℕ) (e : FoundEntry) → n ≢ k → found_at es n ≡ found_at (slice_set es k e) n
-other_stays [] k n e other = refl
-other_stays (d ∷ ds) zero zero e other = absurd (other refl)
-other_stays (d ∷ ds) zero (suc n) e other = refl
-other_stays (d ∷ ds) (suc k) zero e other = refl
-other_stays (d ∷ ds) (suc k) (suc n) e other = other_stays ds k n e (λ same. other (ap suc same))
+abbrev entry_or : FoundEntry → Option FoundEntry → FoundEntry
+entry_or e None = e
+entry_or e (Some d) = d
 
-seen_alike : (seen : SeenEdit) (es : List FoundEntry) (n : ℕ) → Stays (alike_after seen) n → found_at es n ≡ found_at (with_seen seen es) n
-seen_alike Same es n stays = refl
-seen_alike (Other k e) es n stays = other_stays es k n e stays
+same_found : (ds es : List FoundEntry) (n : ℕ) → slice_get ds n ≡ slice_get es n → found_at ds n ≡ found_at es n
+same_found [] [] n is = refl
+same_found [] (e ∷ es) zero is = let none : Option FoundEntry = None in let wrong : none ≡ Some e = is in cc
+same_found [] (e ∷ es) (suc n) is = same_found [] es n is
+same_found (d ∷ ds) [] zero is = let none : Option FoundEntry = None in let wrong : Some d ≡ none = is in cc
+same_found (d ∷ ds) [] (suc n) is = same_found ds [] n is
+same_found (d ∷ ds) (e ∷ es) zero is = ap (λ (o : Option FoundEntry). fixed (found_fixed (entry_or d o))) is
+same_found (d ∷ ds) (e ∷ es) (suc n) is = same_found ds es n is
 
-pub edit_alike : (seen : SeenEdit) (alike : Alike) (was is : Resolved) → alike ≡ alike_after seen → is.entries ≡ with_seen seen was.entries → IsAlike alike was is
-edit_alike seen alike was is known changed = λ n stays.
-    seen_alike seen was.entries n (subst (λ (a : Alike). Stays a n) known stays)
-    ∙ ap (λ (es : List FoundEntry). found_at es n) (sym changed)
+stays_spared : (seen : SeenEdit) (n : ℕ) → Stays (alike_after seen) n → IsSpared seen n
+stays_spared Same n stays = tt
+stays_spared (Others o) n stays = stays
 
 pub put_alike : (was is : Question) (texts : List (List ℕ)) (number : ℕ) (text : List ℕ) (items : List PlacedPiece) (made : ResolvedEdit) (alike : Alike) → was.databases ≡ map pieces_of texts → items ≡ pieces_of text → IsResolvedEdit was number items made → alike ≡ alike_after made.seen → is ≡ with_databases (map pieces_of (slice_set texts number text)) was → IsAlike alike (resolved_for was) (resolved_for is)
 put_alike was is texts number text items made alike read are_items edit known put =
     let now = with_database number items was in
     let same : now ≡ is = put_texts was now texts number text items read are_items refl ∙ sym put in
-    edit_alike made.seen alike (resolved_for was) (resolved_for is) known
-    (ap (λ (q : Question). (resolved_for q).entries) (sym same) ∙ edit.entries)
+    λ n stays.
+    same_found (resolved_for was).entries (resolved_for is).entries n
+    (edit.spared n (stays_spared made.seen n (subst (λ (a : Alike). Stays a n) known stays))
+    ∙ ap (λ (q : Question). slice_get (resolved_for q).entries n) same)
 
 -- what READ leaves is what it found
 
@@ -82,7 +85,7 @@ alike_read alike entries job number r back known is = λ n stays. known n stays 
 pub stays_known : (alike : Alike) (n : ℕ) → Stays alike n → IsTrue (is_known alike)
 stays_known Alikes.Unknown n stays = absurd stays
 stays_known Alikes.All n stays = refl
-stays_known (Alikes.AllBut k) n stays = refl
+stays_known (Alikes.Those flags) n stays = refl
 
 -- what is kept and about this question, after it became that of another one, if anything is known then
 pub kept_alike : (alike : Alike) (was before after asked : Question) → before ≡ was → (IsTrue (is_known alike) → after ≡ asked) → IsAlike alike (resolved_for before) (resolved_for after) → IsAlike alike (resolved_for was) (resolved_for asked)

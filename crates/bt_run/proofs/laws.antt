@@ -1,4 +1,3 @@
 -- Only laws need these.
-pub mod LookupLemmas
 pub mod ByNameLemmas
 pub mod Laws

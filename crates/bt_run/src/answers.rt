@@ -18,15 +18,16 @@ use crate::bibliography::bbl_of;
 use crate::commands::run_style;
 use crate::counts::tell_counts;
 use crate::course::{Course, Step};
+use crate::declarations::copied_texts;
 use crate::job::{Job, shared_text};
 use crate::kept::{Kept, earlier_under};
 use crate::kept_steps::KeptSteps;
 use crate::known_calls::calls_of_all;
 use crate::readings::Readings;
 use crate::reuse::Reuse;
-use crate::start::{idle, with_fault};
+use crate::start::{idle, shared_messages, with_fault};
 use bt_actions::Entry;
-use bt_job::{Citations, File, read_citations};
+use bt_job::{Citations, File};
 use bt_log::{Message, log_bytes, status, terse_bytes};
 use bt_resolve::Cites;
 use bt_style::{StyleFault, StyleRefusal, fields_are_apart};
@@ -123,25 +124,29 @@ fn carry_out_style(
     Ok(course)
 }
 
-/// A run as far as its log, the names that it looked for and did not find, and the text of its style.
+/// A run up to its log, and the text of its style.
 struct StyleRun {
     course: Course,
-    wanted: Sequence<Bytes>,
     text: Option<Shared<Bytes>>,
 }
 
 impl StyleRun {
-    fn new(course: Course, wanted: Sequence<Bytes>, text: Option<Shared<Bytes>>) -> StyleRun
+    fn new(course: Course, text: Option<Shared<Bytes>>) -> StyleRun
         ensures course { result.course ≡ course }
-        ensures wanted { result.wanted ≡ wanted }
         ensures text { result.text ≡ text }
     {
-        StyleRun {
-            course,
-            wanted,
-            text,
-        }
+        StyleRun { course, text }
     }
+}
+
+/// The keys that the `.aux` files cite, shared.
+fn cites_of(citations: &Citations) -> Result<Cites, AllocError>
+    ensures { IfOk result (λ cites. cites ≡ record { keys = citations.now.keys; star = citations.now.star }) }
+{
+    Ok(Cites {
+        keys: citations.keys.share()?,
+        star: citations.star,
+    })
 }
 
 /// Runs what the `.aux` files ask for.
@@ -149,37 +154,28 @@ impl StyleRun {
 fn run_with(
     alloc: Global,
     files: &[File],
-    citations: Citations,
+    citations: &Citations,
     min: u32,
     kept: &Kept,
     steps: &mut KeptSteps,
 ) -> Result<StyleRun, AllocError>
     requires begun { IsBegun steps.old }
-    requires star { ForSome citations.star (λ before. before ≤ length citations.keys) }
+    requires star { ForSome citations.now.star (λ before. before ≤ length citations.now.keys) }
     ensures run { IfOk result (λ r. recorded r.course steps.new.steps
-        ≡ run_with files.now citations min citations.style) }
-    ensures wanted { IfOk result (λ r. r.wanted ≡ citations.wanted) }
-    ensures text { IfOk result (λ r. r.text ≡ named_text files.now citations.style) }
+        ≡ run_with files.now citations.now min citations.now.style) }
+    ensures text { IfOk result (λ r. r.text ≡ named_text files.now citations.now.style) }
     ensures taken { IfOk result (λ r. IsTaken kept.now.text kept.now.steps r.text steps.new.steps steps.new.reuse) }
     ensures ordered { IfOk result (λ r. IsOrdered r.course) }
     ensures kept { IfOk result (λ r. AreKept r.course.entries steps.new) }
 {
-    let Citations {
-        keys,
-        star,
-        databases,
-        style,
-        log,
-        wanted,
-    } = citations;
-    let Some(name) = style else {
+    let log = shared_messages(alloc, citations.log.as_slice())?;
+    let Some(name) = &citations.style else {
         let course = idle(alloc, log)?;
-        return Ok(StyleRun::new(course, wanted, None));
+        return Ok(StyleRun::new(course, None));
     };
     // This call does nothing; the proof needs its contract, a law of the reader of styles.
     fields_are_apart();
-    let keys = Shared::new(alloc, keys)?;
-    let cites = Cites { keys, star };
+    let cites = cites_of(citations)?;
     let text = shared_text(alloc, files, name.as_slice())?;
     let bytes = text.as_slice();
     match steps.readings.style(alloc, &text) {
@@ -188,19 +184,19 @@ fn run_with(
             let job = Job {
                 files,
                 cites: &cites,
-                databases: databases.as_slice(),
+                databases: citations.databases.as_slice(),
                 min,
                 name: name.as_slice(),
                 style: &style,
                 earlier,
             };
             let course = carry_out_style(alloc, job, log, steps)?;
-            Ok(StyleRun::new(course, wanted, Some(text)))
+            Ok(StyleRun::new(course, Some(text)))
         }
         Err(StyleRefusal::Fault { kind, line }) => {
             let log = with_fault(alloc, name.as_slice(), StyleFault { kind, line }, log)?;
             let course = idle(alloc, log)?;
-            Ok(StyleRun::new(course, wanted, Some(text)))
+            Ok(StyleRun::new(course, Some(text)))
         }
         Err(StyleRefusal::OutOfMemory) => Err(AllocError),
     }
@@ -268,13 +264,11 @@ fn run_from(
     ensures arranged { IfOk result (λ ran. IsArranged (length ran.entries) ran.order) }
     ensures kept { IfOk result (λ ran. AreKept ran.entries steps.new) }
 {
-    let citations = read_citations(alloc, files, root, &mut steps.readings.aux_texts)?;
-    let ran = run_with(alloc, files, citations, min, kept, steps)?;
-    let StyleRun {
-        course,
-        wanted,
-        text,
-    } = ran;
+    let citations = steps.readings.aux_texts.citations(alloc, files, root)?;
+    let wanted = copied_texts(alloc, citations.wanted.as_slice())?;
+    let ran = run_with(alloc, files, &citations, min, kept, steps)?;
+    drop(citations);
+    let StyleRun { course, text } = ran;
     let Course {
         entries,
         order,

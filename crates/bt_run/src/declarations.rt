@@ -41,7 +41,7 @@ fn first<T>(items: &[T], count: usize) -> &[T]
     }
 }
 
-fn copied_texts(alloc: Global, texts: &[Bytes]) -> Result<Sequence<Bytes>, AllocError>
+pub fn copied_texts(alloc: Global, texts: &[Bytes]) -> Result<Sequence<Bytes>, AllocError>
     ensures { IfOk result (λ copies. copies ≡ texts.now) }
 {
     let mut copies = Sequence::new(alloc);

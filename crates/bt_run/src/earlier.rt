@@ -85,8 +85,8 @@ pub fn no_numbers<T>(alloc: Global, values: &[T]) -> Result<Sequence<Option<usiz
 }
 
 /// Whether the entries at a place are the same, but for their variables. If it is known, they aren't compared.
-fn is_same_at(old: &Entry, new: &Entry, place: usize, alike: Alike) -> bool
-    requires { Stays alike place → fixed old.now ≡ fixed new.now }
+fn is_same_at(old: &Entry, new: &Entry, place: usize, alike: &Alike) -> bool
+    requires { Stays alike.now place → fixed old.now ≡ fixed new.now }
     ensures { IsTrue result → fixed old.now ≡ fixed new.now }
 {
     alike.stays(place) || equal_fixed(old, new)
@@ -98,9 +98,9 @@ pub fn same_entries(
     alloc: Global,
     entries: &[Entry],
     others: &[Entry],
-    alike: Alike,
+    alike: &Alike,
 ) -> Result<Sequence<bool>, AllocError>
-    requires { (n : ℕ) → Stays alike n → fixed_at entries.now n ≡ fixed_at others.now n }
+    requires { (n : ℕ) → Stays alike.now n → fixed_at entries.now n ≡ fixed_at others.now n }
     ensures { IfOk result (λ same. AreSame entries.now others.now same) }
 {
     let mut same = Sequence::new(alloc);

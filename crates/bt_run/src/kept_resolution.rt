@@ -1,8 +1,8 @@
 //! What READ found, kept for the next run.
 //!
 //! From one run to the next READ mostly asks the same, or one of its databases has a splice. In the first case what is
-//! kept is the answer. In the second it mostly becomes the answer by an edit, which reads at most one entry. Otherwise
-//! the question is resolved anew.
+//! kept is the answer. In the second it mostly becomes the answer by an edit, which reads at most one item and the strings
+//! before it. Otherwise the question is resolved anew.
 //!
 //! What is kept is right about its own question, whatever the session's state is. So an edit that fails may leave it out
 //! or leave one about another state: the next run compares the questions.
@@ -110,8 +110,8 @@ impl KeptResolution {
         self.texts.set(number, text);
     }
 
-    /// Edits the database of this number and returns which entries stay. If more than one may change, it does nothing and
-    /// returns `Unknown`.
+    /// Edits the database of this number and returns which entries stay. If more may change than the values of one entry, it
+    /// does nothing and returns `Unknown`.
     fn edit_at(
         &mut self,
         alloc: Global,
@@ -129,15 +129,15 @@ impl KeptResolution {
         let Some(made) = found else {
             return Ok(Alike::Unknown);
         };
-        let alike = Alike::after(&made.seen);
+        let alike = Alike::after(&made.seen)?;
         let text = new.text.share()?;
         let items = new.items.share()?;
         self.put(number, text, items, made);
         Ok(alike)
     }
 
-    /// Goes over to these texts and returns which entries stay. If more than one may change, it does nothing and returns
-    /// `Unknown`.
+    /// Goes over to these texts and returns which entries stay. If more may change than the values of one entry, it does
+    /// nothing and returns `Unknown`.
     pub fn follow(
         &mut self,
         alloc: Global,

@@ -271,11 +271,17 @@ impl Recorder for KeptSteps {
         course: &mut Course,
     ) -> Result<(), AllocError> {
         let alike = read(alloc, job, number, course, &mut self.readings)?;
+        let same = same_entries(
+            alloc,
+            job.earlier.entries,
+            course.entries.as_slice(),
+            &alike,
+        )?;
+        drop(alike);
         let asked = Asking::at(alloc, job, number)?;
         let places = no_numbers(alloc, self.steps.as_slice())?;
         let lasts = no_numbers(alloc, course.entries.as_slice())?;
         let origins = no_numbers(alloc, course.entries.as_slice())?;
-        let same = same_entries(alloc, job.earlier.entries, course.entries.as_slice(), alike)?;
         self.places = places;
         self.lasts = lasts;
         self.origins = origins;

@@ -65,7 +65,6 @@ fn show_asked(
     let name = name.as_slice();
     // This call does nothing; the proof needs its contract, a law of the reader of styles.
     fields_are_apart();
-    let keys = Shared::new(alloc, keys)?;
     let cites = Cites { keys, star };
     let text = shared_text(alloc, files, name)?;
     match read_style(alloc, text.as_slice()) {

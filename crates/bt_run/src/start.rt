@@ -65,6 +65,17 @@ pub fn begin(
     })
 }
 
+/// The same messages, shared.
+pub fn shared_messages(alloc: Global, messages: &[Message]) -> Result<Sequence<Message>, AllocError>
+    ensures { IfOk result (λ same. same ≡ messages.now) }
+{
+    let mut same = Sequence::new(alloc);
+    'messages: for message in messages {
+        same.push(message.share()?)?;
+    }
+    Ok(same)
+}
+
 /// A run that does nothing but log.
 pub fn idle(alloc: Global, log: Sequence<Message>) -> Result<Course, AllocError>
     ensures { IfOk result (λ course. course ≡ (run_begun no_variables log).course) }

@@ -1,6 +1,7 @@
 -- What texts mean, and the steps of their run, depend on the text of each name alone.
 use Rattle.std.proofs.Common.{◌≡◌, ◌∙◌, ap, refl, ℕ, suc, List, [], ◌∷◌, ◌++◌, map, Option, Some, None, Result, Ok, Err}
 use Rattle.std.specs.Prelude.{unwrap_or}
+use Rattle.std.specs.Option.{is_some}
 use Rattle.bt_style.specs.declared.fault.StyleFault.{StyleFault}
 use Rattle.bt_style.specs.declared.style.Command.{Command}
 use Rattle.bt_style.specs.declared.style.Action.{Action}
@@ -23,7 +24,13 @@ use Rattle.bt_run.specs.Meaning.{run_begun, first_globals, run_of, meaning, trac
 use Rattle.bt_run.specs.inner.Steps.{run_shown}
 use Rattle.bt_run.specs.Kept.{named_text, style_text}
 use Rattle.bt_run.specs.laws.ByName.{HaveSameTexts}
-use Rattle.bt_run.proofs.laws.LookupLemmas.{cited_alike}
+use Rattle.bt_job.proofs.LookupLemmas
+
+-- What the .aux files ask for
+
+cited_alike : (files others : List File) (root : List ℕ) → HaveSameTexts files others → citations files root ≡ citations others root
+cited_alike files others root same =
+    LookupLemmas.cited_alike files others root (record { there = λ name. ap is_some (same name); texts = λ name ends. same name })
 
 -- READ
 

@@ -1,5 +1,5 @@
 -- What is known of the entries that READ found, held against those of the run before.
-use Rattle.std.specs.Prelude.{◌≡◌, ◌≢◌, ℕ, Bool, true, false, ⊤, List, map, Option, Some, None}
+use Rattle.std.specs.Prelude.{◌≡◌, ℕ, Bool, true, false, ⊤, List, map, slice_get, Option, Some, None}
 use Rattle.std.specs.Option.{ForSome}
 use Rattle.bt_actions.specs.declared.entry.Entry.{Entry}
 use Rattle.bt_actions.specs.World.{no_variables}
@@ -7,10 +7,10 @@ use Rattle.bt_resolve.specs.declared.entry.Entry.{Entry as FoundEntry}
 use Rattle.bt_resolve.specs.declared.entry.Resolved.{Resolved}
 use Rattle.bt_resolve.specs.declared.question.Question.{Question}
 use Rattle.bt_resolve.specs.declared.seen_edit.SeenEdit.{SeenEdit}
-use Rattle.bt_resolve.specs.declared.seen_edit.SeenEdit.TheVariants.{Same, Other}
+use Rattle.bt_resolve.specs.declared.seen_edit.SeenEdit.TheVariants.{Same, Others}
 use Rattle.bt_resolve.specs.inner.Kept.{resolved_for}
 use Rattle.bt_run.specs.declared.alike.Alike.{Alike}
-use Rattle.bt_run.specs.declared.alike.Alike.TheVariants.{Unknown, All, AllBut}
+use Rattle.bt_run.specs.declared.alike.Alike.TheVariants.{Unknown, All, Those}
 use Rattle.bt_run.specs.declared.asking.Asking.{Asking}
 use Rattle.bt_run.specs.inner.Asked.{question_of}
 use Rattle.bt_run.specs.inner.Earlier.{fixed_at}
@@ -36,13 +36,13 @@ pub record AreAsked (asked : Option Asking) (entries : List Entry) : Type 0 wher
 abbrev pub is_known : Alike → Bool
 is_known Unknown = false
 is_known All = true
-is_known (AllBut k) = true
+is_known (Those flags) = true
 
 -- The entry at a place is known to be the same.
 abbrev pub Stays : Alike → ℕ → Type 0
 Stays Unknown n = ⊥
 Stays All n = ⊤
-Stays (AllBut k) n = n ≢ k
+Stays (Those flags) n = slice_get flags n ≡ Some true
 
 -- Where it says so, two answers have the same entry.
 abbrev pub IsAlike : Alike → Resolved → Resolved → Type 0
@@ -51,7 +51,7 @@ IsAlike alike was is = (n : ℕ) → Stays alike n → found_at was.entries n �
 -- what an edit leaves
 abbrev pub alike_after : SeenEdit → Alike
 alike_after Same = All
-alike_after (Other k e) = AllBut k
+alike_after (Others o) = Those o.stays
 
 -- Where it says so, entries are those that were found, but for their variables.
 abbrev pub AreAlike : Alike → List Entry → Resolved → Type 0

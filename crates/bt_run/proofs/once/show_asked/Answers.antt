@@ -1,12 +1,10 @@
-use Rattle.std.proofs.Common.{◌∙◌, ap, sym, subst, List, ℕ}
+use Rattle.std.proofs.Common.{◌∙◌, ap, sym, subst}
 use Rattle.bt_style.specs.declared.fault.StyleFault.{StyleFault}
 use Rattle.bt_style.specs.declared.fault.StyleRefusal.{StyleRefusal}
 use Rattle.bt_style.specs.Fault.{Fails}
 use Rattle.bt_style.specs.Program.{program_of}
 use Rattle.bt_style.specs.Reader.{style_of}
-use Rattle.bt_run.specs.Meaning.{style_run}
 use Rattle.bt_run.specs.Shown.{meaning_of}
-use Rattle.bt_run.specs.inner.Steps.{run_shown}
 use Rattle.bt_run.proofs.WrittenLemmas.{read_shown, faulty_shown}
 use Rattle.bt_run.proofs.once.show_asked.Goals as goal
 
@@ -21,9 +19,8 @@ returns-in-Ok c =
     let names = c.as_slice-in-Ok.result.now in
     let p = program_of c.in-Ok.style in
     let read = ap style_of (sym (c.as_slice.ensures ∙ c.deref.ensures)) ∙ c.in-Ok.ensures in
-    let keys = ap (λ (ks : List (List ℕ)). run_shown (style_run (record { files = c.args.files.now; cites = record { keys = ks; star = cited.star }; databases = names; min = c.args.min; style = name; program = p }) cited.log) cited.wanted) c.in_ok-keys.ensures in
     read_shown c.args.files.now cited c.args.min c.in-Some.name name name c.in_ok-text.text names p (meaning_of c.in_ok-answers-in-Ok.answers)
-    (c.in_ok-answers-in-Ok.ensures ∙ keys) c.in-Some.is c.as_slice-in-Ok.ensures c.as_slice-name.ensures read c.in_ok-text.ensures c.as_slice-name.ensures
+    c.in_ok-answers-in-Ok.ensures c.in-Some.is c.as_slice-in-Ok.ensures c.as_slice-name.ensures read c.in_ok-text.ensures c.as_slice-name.ensures
 
 pub returns-in-Err-Fault : goal.returns-in-Err-Fault
 returns-in-Err-Fault c =

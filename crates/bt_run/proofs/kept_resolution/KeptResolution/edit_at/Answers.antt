@@ -21,5 +21,5 @@ returns-clause-alike c =
     let items = c.deref.result.now in
     let text = c.in_ok-text.text in
     let edit = subst (λ (o : Option ResolvedEdit). IfSome o (λ e. IsResolvedEdit kept.resolution n items e)) c.in-Some.is c.in_ok-found.ensures in
-    put_alike kept.resolution c.put.new.self.resolution kept.texts n text items c.in-Some.made c.after-alike.result
-    kept.read (c.deref.ensures ∙ new.read ∙ ap pieces_of (sym c.in_ok-text.ensures)) edit c.after-alike.ensures c.put.ensures
+    put_alike kept.resolution c.put.new.self.resolution kept.texts n text items c.in-Some.made c.in_ok-alike.alike
+    kept.read (c.deref.ensures ∙ new.read ∙ ap pieces_of (sym c.in_ok-text.ensures)) edit c.in_ok-alike.ensures c.put.ensures

@@ -15,10 +15,10 @@ returns-clause-ready c =
     let job = c.args.job in
     let s = c.args.self.now in
     let same = c.in_ok-same.same in
-    let are_none = c.in_ok-places.ensures ∙ ap (map (λ (s : Step). None)) c.as_slice.ensures in
-    let no_lasts = c.in_ok-lasts.ensures ∙ ap (map (λ (e : Entry). None)) c.as_slice-2.ensures in
-    let no_origins = c.in_ok-origins.ensures ∙ ap (map (λ (e : Entry). None)) c.as_slice-3.ensures in
-    let are_same = subst (λ (es : List Entry). AreSame job.earlier.entries.now es same) c.as_slice-4.ensures c.in_ok-same.ensures in
+    let are_none = c.in_ok-places.ensures ∙ ap (map (λ (s : Step). None)) c.as_slice-2.ensures in
+    let no_lasts = c.in_ok-lasts.ensures ∙ ap (map (λ (e : Entry). None)) c.as_slice-3.ensures in
+    let no_origins = c.in_ok-origins.ensures ∙ ap (map (λ (e : Entry). None)) c.as_slice-4.ensures in
+    let are_same = subst (λ (es : List Entry). AreSame job.earlier.entries.now es same) c.as_slice.ensures c.in_ok-same.ensures in
     subst (λ (k : KeptSteps). IsConsistent (program_of job.style.now) job.earlier (course_world c.read.new.course) k) (sym c.in_ok-make_room.ensures)
     (read_consistent (program_of job.style.now) job.earlier (job_of job) c.args.number c.args.course.now c.read.new.course s
     c.read.new.readings c.in_ok-places.places c.in_ok-lasts.lasts c.in_ok-origins.origins same c.in_ok-asked.asked c.in_ok-alike.ensures.run are_none no_lasts no_origins are_same c.in_ok-asked.ensures c.requires)
@@ -27,4 +27,4 @@ pub returns-clause-seen : goal.returns-clause-seen
 returns-clause-seen c = ap (λ (k : KeptSteps). k.steps) c.in_ok-make_room.ensures
 
 pub same_entries-requires : goal.same_entries-requires
-same_entries-requires c = λ n stays. c.in_ok-alike.ensures.alike n stays ∙ ap (λ (es : List Entry). fixed_at es n) (sym c.as_slice-4.ensures)
+same_entries-requires c = λ n stays. c.in_ok-alike.ensures.alike n stays ∙ ap (λ (es : List Entry). fixed_at es n) (sym c.as_slice.ensures)
