@@ -7,10 +7,10 @@ use Rattle.bt_style.specs.declared.builtin.Builtin.TheVariants as builtin
 use Rattle.bt_text.specs.declared.modes.Mode.{Mode}
 use Rattle.bt_actions.specs.declared.complaint.Complaint.{Complaint}
 use Rattle.bt_actions.specs.declared.complaint.Complaint.TheVariants.{StackPassed, TextPassed, BadCase}
-use Rattle.bt_actions.specs.Arguments.{as_text, is_wrong, judged, taken_two}
+use Rattle.bt_actions.specs.Arguments.{as_text, judged, taken_two}
 use Rattle.bt_actions.specs.Item.{Item, Num, Txt, Fun, Missing}
 use Rattle.bt_actions.specs.World.{World, Goes, Stops, say, with_stack}
-use Rattle.bt_actions.specs.State.{pushed, pushed_in_error, popped, text_len}
+use Rattle.bt_actions.specs.State.{pushed_in_error, text_len}
 use Rattle.bt_actions.specs.Given.{answered, valued, empty_item}
 use Rattle.bt_actions.specs.Texts.{mode_of, case_by, case_of}
 use Rattle.bt_stack.specs.Tops.{top_len}
@@ -60,12 +60,3 @@ case_pushed (u ∷ Missing n ∷ rest) told w e few short = absurd (none-some to
 pub none_asked : (asked : Option (List ℕ × List ℕ)) → None ≡ option_map case_told asked → asked ≡ None
 none_asked None e = refl
 none_asked (Some both) e = absurd (none-some (case_told both) e)
-
-refused_from : (l : List Item) (w : World) → case_asked l ≡ None → valued case_of empty_item (taken_two builtin.ChangeCase as_text as_text (with_stack l w)) ≡ pushed empty_item (judged builtin.ChangeCase (is_wrong as_text (slice_get l 0) || is_wrong as_text (slice_get l 1)) (popped (popped (with_stack l w)).1).1)
-refused_from [] w e = refl
-refused_from (u ∷ []) w e = refl
-refused_from (u ∷ v ∷ rest) w e = ap (λ o. valued case_of empty_item (o, judged builtin.ChangeCase (is_none (as_text u) || is_none (as_text v)) (with_stack rest w))) e
-
--- they are taken away, and the empty text is there instead
-pub case_refused : (w : World) → case_asked w.stack ≡ None → valued case_of empty_item (taken_two builtin.ChangeCase as_text as_text w) ≡ pushed empty_item (judged builtin.ChangeCase (is_wrong as_text (slice_get w.stack 0) || is_wrong as_text (slice_get w.stack 1)) (popped (popped w).1).1)
-case_refused w e = refused_from w.stack w e

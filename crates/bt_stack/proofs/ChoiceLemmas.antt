@@ -1,11 +1,10 @@
 -- The function that `if$` takes from the stack.
-use Rattle.std.proofs.Common.{◌≡◌, ◌≤◌, ℤ, List, [], ◌∷◌, length, drop, refl, ap, sym, arith}
-use Rattle.std.specs.Prelude.{Option, Some, None, option_map, slice_get, is_none, ◌||◌}
+use Rattle.std.proofs.Common.{◌≡◌, ◌≤◌, ℤ, List, [], ◌∷◌, length, drop, refl, sym, arith}
+use Rattle.std.specs.Prelude.{Option, Some, None, option_map, is_none, ◌||◌}
 use Rattle.std.proofs.lemmas.Option.{none-some}
 use Rattle.bt_style.specs.declared.builtin.Builtin.TheVariants as builtin
-use Rattle.bt_actions.specs.Arguments.{as_number, as_code, all_three, is_wrong, judged, taken_three}
+use Rattle.bt_actions.specs.Arguments.{as_number, as_code, all_three, judged, taken_three}
 use Rattle.bt_actions.specs.Item.{Item, Code}
-use Rattle.bt_actions.specs.State.{popped}
 use Rattle.bt_actions.specs.World.{World, with_stack}
 use Rattle.bt_stack.specs.Choice.{chosen, chosen_of, choice_asked}
 
@@ -33,13 +32,3 @@ choice_taken (u ∷ v ∷ t ∷ rest) x w e = by_kinds (as_number t) (as_code v)
 pub no_choice_asked : (asked : Option (ℤ × Code × Code)) → None ≡ option_map chosen asked → asked ≡ None
 no_choice_asked None e = refl
 no_choice_asked (Some all) e = absurd (none-some (chosen all) e)
-
-refused_from : (l : List Item) (w : World) → choice_asked l ≡ None → chosen_of (taken_three builtin.If as_number as_code as_code (with_stack l w)) ≡ (None, judged builtin.If (is_wrong as_code (slice_get l 0) || is_wrong as_code (slice_get l 1) || is_wrong as_number (slice_get l 2)) (popped (popped (popped (with_stack l w)).1).1).1)
-refused_from [] w e = refl
-refused_from (u ∷ []) w e = refl
-refused_from (u ∷ v ∷ []) w e = refl
-refused_from (u ∷ v ∷ t ∷ rest) w e = ap (λ o. (option_map chosen o, judged builtin.If (is_none (as_code u) || is_none (as_code v) || is_none (as_number t)) (with_stack rest w))) e
-
--- they are taken away, and judged
-pub choice_refused : (w : World) → choice_asked w.stack ≡ None → chosen_of (taken_three builtin.If as_number as_code as_code w) ≡ (None, judged builtin.If (is_wrong as_code (slice_get w.stack 0) || is_wrong as_code (slice_get w.stack 1) || is_wrong as_number (slice_get w.stack 2)) (popped (popped (popped w).1).1).1)
-choice_refused w e = refused_from w.stack w e

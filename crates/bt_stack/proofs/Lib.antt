@@ -6,7 +6,6 @@ mod JoinLemmas
 mod LogLemmas
 mod LeftLemmas
 mod MoveLemmas
-mod NameLemmas
 mod PartLemmas
 mod TellLemmas
 mod TopLemmas

@@ -6,8 +6,9 @@ use Rattle.bt_actions.specs.Item.{Item}
 use Rattle.bt_actions.specs.State.{text_len}
 use Rattle.bt_stack.specs.declared.value.Value.{Value}
 use Rattle.bt_stack.specs.declared.value.Value.TheVariants as value
+use Rattle.bt_stack.specs.declared.step_variables.StepVariables.{StepVariables}
 use Rattle.bt_stack.specs.Tops.{with_top, exchanged, cut, top_len}
-use Rattle.bt_stack.specs.inner.Kept.{part, item_in, items, Fits, AllFit}
+use Rattle.bt_stack.specs.inner.Kept.{part, item_in, items, Fits, AllFit, IsSound}
 use Rattle.bt_stack.proofs.GrowLemmas.{all_next, all_cons, items_grow}
 
 pub items_push : (pool : List ℕ) (vs : List Value) (v : Value) → items pool (vs ++ v ∷ []) ≡ item_in pool v ∷ items pool vs
@@ -131,6 +132,23 @@ fit_pushed size vs vs' v fit fits are_values =
 pub few_pushed : (pool : List ℕ) (vs vs' : List Value) (v : Value) (old : List Item) → items pool vs ≡ old → length old < 1000 → vs' ≡ vs ++ v ∷ [] → length vs' ≤ 1000
 few_pushed pool vs vs' v old are_old room are_values =
     omega (arith, room, items_len pool vs old are_old, ap length are_values, length-append vs (v ∷ []))
+
+pub pushed_sound : (pool : List ℕ) (vs vs' : List Value) (v : Value) (g o : StepVariables) (old : List Item) → IsSound (length pool) vs g o → Fits (length pool) v → items pool vs ≡ old → length old < 1000 → vs' ≡ vs ++ v ∷ [] → IsSound (length pool) vs' g o
+pushed_sound pool vs vs' v g o old sound fits are_old room are_values =
+    record {
+      fit = fit_pushed (length pool) vs vs' v sound.fit fits are_values;
+      globals_fit = sound.globals_fit;
+      own_fit = sound.own_fit;
+      few = few_pushed pool vs vs' v old are_old room are_values;
+    }
+
+-- variables with other texts
+
+pub globals_sound : (size : ℕ) (vs : List Value) (g g' o : StepVariables) → AllFit size g'.texts.items → IsSound size vs g o → IsSound size vs g' o
+globals_sound size vs g g' o fit sound = record { fit = sound.fit; globals_fit = fit; own_fit = sound.own_fit; few = sound.few }
+
+pub own_sound : (size : ℕ) (vs : List Value) (g o o' : StepVariables) → AllFit size o'.texts.items → IsSound size vs g o → IsSound size vs g o'
+own_sound size vs g o o' fit sound = record { fit = sound.fit; globals_fit = sound.globals_fit; own_fit = fit; few = sound.few }
 
 item_short : (pool : List ℕ) (v : Value) → Fits (length pool) v → text_len (item_in pool v) ≤ 65536
 item_short pool (value.Number n) h = omega arith

@@ -45,15 +45,15 @@ abbrev pub own_begun : Option Entry → Variables → Variables
 own_begun None globals = globals
 own_begun (Some entry) globals = entry.variables
 
--- the world before a step for an entry or for none
-abbrev pub world_begun : Option Entry → Variables → List ℕ → List ℕ → World
-world_begun entry globals preamble held =
+-- the world before a step for an entry or for none, with no line held
+abbrev pub world_begun : Option Entry → Variables → List ℕ → World
+world_begun entry globals preamble =
     record {
       entries = entries_in entry;
       current = option_map (λ e. 0) entry;
       globals = globals;
       preamble = preamble;
-      held = held;
+      held = [];
       lines = [];
       messages = [];
       stack = [];

@@ -4,6 +4,5 @@ pub mod Kept
 pub mod Left
 pub mod Moved
 pub mod Logged
-pub mod Formatted
 pub mod Converted
 pub mod Part

@@ -75,7 +75,7 @@ fn chosen_top<'a>(stack: &Stack<'a>) -> Option<Code<'a>>
 
 /// `if$` of other values.
 #[cold]
-#[tactic(auto, using(crate::proofs::ChoiceLemmas::choice_refused))]
+#[tactic(auto, using(crate::proofs::FormLemmas::three_refused))]
 fn refuse_choice<'a>(state: &mut State<'a>) -> Result<Option<Code<'a>>, AllocError>
     requires { choice_asked state.old.stack.items ≡ None }
     ensures { IfOk result (λ code. (option_map code_seen code, world_of state.new)

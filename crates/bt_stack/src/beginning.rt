@@ -24,17 +24,16 @@ impl<'a> State<'a> {
     ghost use Rattle.std.specs.Prelude.{◌≡◌, [], OnOk};
     ghost use Rattle.bt_stack.specs.View.{world_of, world_begun};
 
-    /// The state before a step for an entry or for none, with the variables of the style and the line that is held. It has
-    /// no memory of its own yet. A result that might be out of memory would be copied, with all of the state, at each step.
+    /// The state before a step for an entry or for none, with the variables of the style. It holds no line, and has no memory
+    /// of its own yet. A result that might be out of memory would be copied, with all of the state, at each step.
     pub fn begin(
         alloc: Global,
         entry: &'a Option<Entry>,
         globals: &'a Shared<Variables>,
         preamble: &'a [u8],
         patterns: &'a SoundPatterns,
-        held: Held,
     ) -> State<'a>
-        ensures { world_of result ≡ world_begun entry.now globals.now preamble.now held }
+        ensures { world_of result ≡ world_begun entry.now globals.now preamble.now }
     {
         let own = own_begun(entry, globals);
         let entry = entry.as_ref();
@@ -43,16 +42,17 @@ impl<'a> State<'a> {
             entry,
             preamble,
             patterns,
-            held,
+            held: Held::new(alloc),
             lines: Sequence::new(alloc),
             complaints: Sequence::new(alloc),
         }
     }
 
-    /// Makes room on the stack for the values and texts of most steps.
-    pub fn make_room(&mut self) -> Result<(), AllocError>
-        ensures { OnOk result (world_of self.new ≡ world_of self.old) }
+    /// Holds a copy of a line, and makes room on the stack for the values and texts of most steps.
+    pub fn make_room(&mut self, alloc: Global, held: &Held) -> Result<(), AllocError>
+        ensures { OnOk result (world_of self.new ≡ record (world_of self.old) { held = held.now }) }
     {
+        self.held = held.copy(alloc)?;
         self.stack.make_room()
     }
 }

@@ -59,13 +59,7 @@ fn is_all_white(text: &[u8]) -> bool
 pub struct Empty;
 
 impl OfFieldText for Empty {
-    ghost builtin = { builtin.Empty };
-
     ghost value = { emptiness_of };
-
-    fn builtin() -> Builtin {
-        Builtin::Empty
-    }
 
     fn of(text: Option<&[u8]>) -> bool {
         match text {
@@ -79,13 +73,7 @@ impl OfFieldText for Empty {
 pub struct Missing;
 
 impl OfFieldText for Missing {
-    ghost builtin = { builtin.Missing };
-
     ghost value = { missing_of };
-
-    fn builtin() -> Builtin {
-        Builtin::Missing
-    }
 
     fn of(text: Option<&[u8]>) -> bool {
         text.is_none()

@@ -4,7 +4,6 @@
 //! short enough to be inlined into the loop.
 
 ghost use Rattle.std.specs.Prelude.{◌≡◌, ◌≤◌, ◌<◌, [], ℤ, ℕ, List, Option, IfOk, OnOk, length, drop, option_copied, ◌++◌};
-ghost use Rattle.bt_style.specs.declared.builtin.Builtin.{Builtin as Primitive};
 ghost use Rattle.bt_actions.specs.Item.{Txt};
 ghost use Rattle.bt_actions.specs.Arguments.{as_number, as_text, as_field_text, taken, taken_two};
 ghost use Rattle.bt_actions.specs.Given.{Given, Gives, valued, zero_item, empty_item, number_given, truth};
@@ -24,13 +23,7 @@ use std::alloc::{AllocError, Global};
 
 /// A function of two numbers that gives a number.
 pub trait OfTwoNumbers {
-    ghost builtin: { Primitive };
-
     ghost value: { ℤ × ℤ → Given };
-
-    /// Which one it is.
-    fn builtin() -> Builtin
-        ensures { result ≡ builtin };
 
     /// Its value, or what is wrong with it.
     fn of(lower: i32, upper: i32) -> Result<i32, Complaint>
@@ -39,13 +32,7 @@ pub trait OfTwoNumbers {
 
 /// A function of a text that gives a number.
 pub trait OfTextToNumber {
-    ghost builtin: { Primitive };
-
     ghost value: { List ℕ → Given };
-
-    /// Which one it is.
-    fn builtin() -> Builtin
-        ensures { result ≡ builtin };
 
     /// Its value, or what is wrong with it.
     fn of(alloc: Global, text: &[u8]) -> Result<Result<i32, Complaint>, AllocError>
@@ -55,13 +42,7 @@ pub trait OfTextToNumber {
 
 /// A test of a text, or of a field that is missing.
 pub trait OfFieldText {
-    ghost builtin: { Primitive };
-
     ghost value: { Option (List ℕ) → Given };
-
-    /// Which one it is.
-    fn builtin() -> Builtin
-        ensures { result ≡ builtin };
 
     /// Whether it holds.
     fn of(text: Option<&[u8]>) -> bool
@@ -70,13 +51,7 @@ pub trait OfFieldText {
 
 /// A function of a text that gives a text.
 pub trait OfTextToText {
-    ghost builtin: { Primitive };
-
     ghost value: { List ℕ → List ℕ };
-
-    /// Which one it is.
-    fn builtin() -> Builtin
-        ensures { result ≡ builtin };
 
     /// Writes its value on a page.
     fn write(text: &[u8], page: &mut Vec<u8>) -> Result<(), AllocError>
@@ -85,13 +60,7 @@ pub trait OfTextToText {
 
 /// A function of a number that gives a text.
 pub trait OfNumberToText {
-    ghost builtin: { Primitive };
-
     ghost value: { ℤ → Given };
-
-    /// Which one it is.
-    fn builtin() -> Builtin
-        ensures { result ≡ builtin };
 
     /// Writes its value on an empty page, or tells what is wrong with the number.
     fn write(number: i32, page: &mut Vec<u8>) -> Result<Option<Complaint>, AllocError>
@@ -168,9 +137,12 @@ pub fn answer_bytes(state: &mut State, count: usize, text: Bytes) -> Result<Flow
 }
 
 /// Calls a function of two numbers.
-pub fn call_of_two_numbers<F: OfTwoNumbers>(state: &mut State) -> Result<Flow, AllocError>
+pub fn call_of_two_numbers<F: OfTwoNumbers>(
+    state: &mut State,
+    builtin: Builtin,
+) -> Result<Flow, AllocError>
     ensures { IfOk result (Acts (λ world.
-        valued F.value zero_item (taken_two F.builtin as_number as_number world)) state.old state.new) }
+        valued F.value zero_item (taken_two builtin as_number as_number world)) state.old state.new) }
 {
     match (state.stack.number_at(1), state.stack.number_at(0)) {
         (Some(lower), Some(upper)) => match F::of(lower, upper) {
@@ -182,7 +154,7 @@ pub fn call_of_two_numbers<F: OfTwoNumbers>(state: &mut State) -> Result<Flow, A
         },
         _ => {
             let wrong = state.stack.is_no_number(0) || state.stack.is_no_number(1);
-            state.refuse_two(F::builtin(), wrong)?;
+            state.refuse_two(builtin, wrong)?;
             state.push_number(0)
         }
     }
@@ -193,9 +165,10 @@ pub fn call_of_two_numbers<F: OfTwoNumbers>(state: &mut State) -> Result<Flow, A
 pub fn call_of_text_to_number<F: OfTextToNumber>(
     state: &mut State,
     alloc: Global,
+    builtin: Builtin,
 ) -> Result<Flow, AllocError>
     ensures { IfOk result (Acts (λ world.
-        valued F.value zero_item (taken F.builtin as_text world)) state.old state.new) }
+        valued F.value zero_item (taken builtin as_text world)) state.old state.new) }
 {
     match state.stack.text_at(0) {
         Some(text) => match F::of(alloc, text)? {
@@ -207,16 +180,19 @@ pub fn call_of_text_to_number<F: OfTextToNumber>(
         },
         None => {
             let wrong = state.stack.is_no_text(0);
-            state.refuse_one(F::builtin(), wrong)?;
+            state.refuse_one(builtin, wrong)?;
             state.push_number(0)
         }
     }
 }
 
 /// Calls a test of a text, or of a field that is missing.
-pub fn call_of_field_text<F: OfFieldText>(state: &mut State) -> Result<Flow, AllocError>
+pub fn call_of_field_text<F: OfFieldText>(
+    state: &mut State,
+    builtin: Builtin,
+) -> Result<Flow, AllocError>
     ensures { IfOk result (Acts (λ world.
-        valued F.value zero_item (taken F.builtin as_field_text world)) state.old state.new) }
+        valued F.value zero_item (taken builtin as_field_text world)) state.old state.new) }
 {
     match state.stack.field_text_at(0) {
         Some(text) => {
@@ -226,7 +202,7 @@ pub fn call_of_field_text<F: OfFieldText>(state: &mut State) -> Result<Flow, All
         }
         None => {
             let wrong = state.stack.is_no_field_text(0);
-            state.refuse_one(F::builtin(), wrong)?;
+            state.refuse_one(builtin, wrong)?;
             state.push_number(0)
         }
     }
@@ -237,9 +213,10 @@ pub fn call_of_field_text<F: OfFieldText>(state: &mut State) -> Result<Flow, All
 pub fn call_of_text_to_text<F: OfTextToText>(
     state: &mut State,
     alloc: Global,
+    builtin: Builtin,
 ) -> Result<Flow, AllocError>
     ensures { IfOk result (Acts (λ world.
-        valued (text_given F.value) empty_item (taken F.builtin as_text world)) state.old state.new) }
+        valued (text_given F.value) empty_item (taken builtin as_text world)) state.old state.new) }
 {
     let mut page = state.stack.take_page(alloc);
     match state.stack.text_at(0) {
@@ -249,7 +226,7 @@ pub fn call_of_text_to_text<F: OfTextToText>(
         }
         None => {
             let wrong = state.stack.is_no_text(0);
-            state.refuse_one(F::builtin(), wrong)?;
+            state.refuse_one(builtin, wrong)?;
             state.push_given(b"")
         }
     }
@@ -260,9 +237,10 @@ pub fn call_of_text_to_text<F: OfTextToText>(
 pub fn call_of_number_to_text<F: OfNumberToText>(
     state: &mut State,
     alloc: Global,
+    builtin: Builtin,
 ) -> Result<Flow, AllocError>
     ensures { IfOk result (Acts (λ world.
-        valued F.value empty_item (taken F.builtin as_number world)) state.old state.new) }
+        valued F.value empty_item (taken builtin as_number world)) state.old state.new) }
 {
     let mut page = state.stack.take_page(alloc);
     match state.stack.number_at(0) {
@@ -272,7 +250,7 @@ pub fn call_of_number_to_text<F: OfNumberToText>(
         },
         None => {
             let wrong = state.stack.is_no_number(0);
-            state.refuse_one(F::builtin(), wrong)?;
+            state.refuse_one(builtin, wrong)?;
             state.push_given(b"")
         }
     }

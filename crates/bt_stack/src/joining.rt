@@ -29,31 +29,8 @@ fn append(pool: &mut Vec<u8>, scratch: &mut Vec<u8>, value: Value) -> Result<(),
     }
 }
 
-/// Joins two kept texts of `len` bytes together by copying both to the end of the pool.
-fn join_anew<'a>(
-    pool: &mut Vec<u8>,
-    scratch: &mut Vec<u8>,
-    lower: Value<'a>,
-    upper: Value<'a>,
-    len: usize,
-) -> Result<Value<'a>, AllocError>
-    requires lower { Fits (length pool.old.items) lower }
-    requires upper { Fits (length pool.old.items) upper }
-    requires len { len ≡ length (bytes_in pool.old.items lower) + length (bytes_in pool.old.items upper) }
-    requires short { len ≤ 65536 }
-    ensures grows { Grows pool.old.items pool.new.items }
-    ensures item { IfOk result (λ text. item_in pool.new.items text
-        ≡ Txt (bytes_in pool.old.items lower.entry ++ bytes_in pool.old.items upper.entry)) }
-    ensures fits { IfOk result (Fits (length pool.new.items)) }
-{
-    let start = pool.len();
-    append(pool, scratch, lower)?;
-    append(pool, scratch, upper)?;
-    Ok(Value::Made(start, len))
-}
-
 /// Joins two kept texts of `len` bytes together. If the first one ends the pool, only the second is copied; if they lie
-/// side by side, neither is.
+/// side by side, neither is; otherwise both are copied to the end of the pool.
 fn join_texts<'a>(
     pool: &mut Vec<u8>,
     scratch: &mut Vec<u8>,
@@ -78,7 +55,12 @@ fn join_texts<'a>(
             append(pool, scratch, upper)?;
             Ok(Value::Made(start, len))
         }
-        _ => join_anew(pool, scratch, lower, upper, len),
+        _ => {
+            let start = pool.len();
+            append(pool, scratch, lower)?;
+            append(pool, scratch, upper)?;
+            Ok(Value::Made(start, len))
+        }
     }
 }
 

@@ -71,6 +71,7 @@ impl<'a> State<'a> {
 
     /// What the step leaves. Only the values of variables that the step changed and the words of its messages are copied.
     /// The state is of no use after this.
+    #[inline(never)]
     pub fn leave(&mut self, alloc: Global) -> Result<Left, AllocError>
         ensures { IfOk result (λ left. left ≡ left_of (world_of self.old)) }
     {

@@ -5,7 +5,6 @@ ghost use Rattle.bt_actions.specs.Item.{Num};
 ghost use Rattle.bt_actions.specs.Given.{truth};
 ghost use Rattle.bt_actions.specs.Numbers.{byte_number};
 ghost use Rattle.bt_actions.specs.inner.Rows.{sum_of, difference_of, greater_of, less_of};
-ghost use Rattle.bt_style.specs.declared.builtin.Builtin.TheVariants as builtin;
 
 use crate::forms::{OfTextToNumber, OfTwoNumbers, fitting};
 use bt_actions::Complaint;
@@ -24,13 +23,7 @@ pub fn truth(holds: bool) -> i32
 pub struct Plus;
 
 impl OfTwoNumbers for Plus {
-    ghost builtin = { builtin.Plus };
-
     ghost value = { sum_of };
-
-    fn builtin() -> Builtin {
-        Builtin::Plus
-    }
 
     fn of(lower: i32, upper: i32) -> Result<i32, Complaint> {
         fitting(Builtin::Plus, i64::from(lower) + i64::from(upper))
@@ -41,13 +34,7 @@ impl OfTwoNumbers for Plus {
 pub struct Minus;
 
 impl OfTwoNumbers for Minus {
-    ghost builtin = { builtin.Minus };
-
     ghost value = { difference_of };
-
-    fn builtin() -> Builtin {
-        Builtin::Minus
-    }
 
     fn of(lower: i32, upper: i32) -> Result<i32, Complaint> {
         fitting(Builtin::Minus, i64::from(lower) - i64::from(upper))
@@ -58,13 +45,7 @@ impl OfTwoNumbers for Minus {
 pub struct Greater;
 
 impl OfTwoNumbers for Greater {
-    ghost builtin = { builtin.Greater };
-
     ghost value = { greater_of };
-
-    fn builtin() -> Builtin {
-        Builtin::Greater
-    }
 
     fn of(lower: i32, upper: i32) -> Result<i32, Complaint> {
         Ok(truth(lower > upper))
@@ -75,13 +56,7 @@ impl OfTwoNumbers for Greater {
 pub struct Less;
 
 impl OfTwoNumbers for Less {
-    ghost builtin = { builtin.Less };
-
     ghost value = { less_of };
-
-    fn builtin() -> Builtin {
-        Builtin::Less
-    }
 
     fn of(lower: i32, upper: i32) -> Result<i32, Complaint> {
         Ok(truth(lower < upper))
@@ -92,13 +67,7 @@ impl OfTwoNumbers for Less {
 pub struct ChrToInt;
 
 impl OfTextToNumber for ChrToInt {
-    ghost builtin = { builtin.ChrToInt };
-
     ghost value = { byte_number };
-
-    fn builtin() -> Builtin {
-        Builtin::ChrToInt
-    }
 
     fn of(alloc: Global, text: &[u8]) -> Result<Result<i32, Complaint>, AllocError> {
         match text {

@@ -3,11 +3,9 @@
 ghost use Rattle.std.specs.Prelude.{◌≡◌};
 ghost use Rattle.bt_actions.specs.Numbers.{ascii_text};
 ghost use Rattle.bt_actions.specs.inner.Rows.{digits_text};
-ghost use Rattle.bt_style.specs.declared.builtin.Builtin.TheVariants as builtin;
 
 use crate::forms::OfNumberToText;
 use bt_actions::Complaint;
-use bt_style::Builtin;
 use itoa::Buffer;
 use std::alloc::AllocError;
 
@@ -15,13 +13,7 @@ use std::alloc::AllocError;
 pub struct IntToChr;
 
 impl OfNumberToText for IntToChr {
-    ghost builtin = { builtin.IntToChr };
-
     ghost value = { ascii_text };
-
-    fn builtin() -> Builtin {
-        Builtin::IntToChr
-    }
 
     fn write(number: i32, page: &mut Vec<u8>) -> Result<Option<Complaint>, AllocError> {
         if 0 <= number && number < 128 {
@@ -37,13 +29,7 @@ impl OfNumberToText for IntToChr {
 pub struct IntToStr;
 
 impl OfNumberToText for IntToStr {
-    ghost builtin = { builtin.IntToStr };
-
     ghost value = { digits_text };
-
-    fn builtin() -> Builtin {
-        Builtin::IntToStr
-    }
 
     fn write(number: i32, page: &mut Vec<u8>) -> Result<Option<Complaint>, AllocError> {
         page.extend_from_slice(Buffer::new().format(number).as_bytes())?;

@@ -6,12 +6,12 @@
 
 ghost use Rattle.std.specs.Prelude.{◌≡◌, ◌≤◌, ◌<◌, [], ◌∷◌, length, drop, slice_get, option_copied, option_map, option_and_then, IfSome, IfOk, OnOk, OnErr};
 ghost use Rattle.bt_style.specs.Program.{program_of};
-ghost use Rattle.bt_style.specs.Tree.{ops_body};
-ghost use Rattle.bt_actions.specs.Item.{Num, Txt, Fun, Missing, Name, Block};
+ghost use Rattle.bt_actions.specs.Item.{Num};
 ghost use Rattle.bt_actions.specs.Arguments.{as_number, as_text, as_field_text, as_code, as_target, is_wrong};
 ghost use Rattle.bt_actions.specs.LogLines.{shown_value};
 ghost use Rattle.bt_actions.specs.View.{code_seen};
 ghost use Rattle.bt_stack.specs.Desk.{with_items};
+ghost use Rattle.bt_stack.specs.inner.Kept.{item_in, Fits};
 ghost use Rattle.bt_stack.specs.Tops.{twice, top_len, exchanged, with_top, cut, tops_equal};
 
 use crate::reading::{code_in, cut, equal, field_text_in, name_in, number_in, text_in, value_at};
@@ -19,7 +19,7 @@ use crate::shown::shown;
 use crate::step_variables::StepVariables;
 use crate::value::Value;
 use bt_actions::{Code, Variables};
-use bt_style::{Op, Style, Target};
+use bt_style::{Style, Target};
 use bt_text::{Bytes, Shared};
 use std::alloc::{AllocError, Global};
 use std::marker::Model;
@@ -110,54 +110,15 @@ impl<'a> Stack<'a> {
         self.values.len()
     }
 
-    /// Pushes a number. After out of memory, the stack is unchanged, as it is for each method below.
-    pub fn push_number(&mut self, number: i32) -> Result<(), AllocError>
-        requires { length self.old.items < 1000 }
-        ensures ok { OnOk result (self.new ≡ with_items (Num number ∷ self.old.items) self.old) }
-        ensures err { OnErr result (self.new ≡ self.old) }
-    {
-        self.values.push(Value::Number(number))?;
-        Ok(())
-    }
-
-    /// Pushes a text that outlives the stack. Nothing is copied.
-    pub fn push_given(&mut self, text: &'a [u8]) -> Result<(), AllocError>
-        requires short { length text.now ≤ 65536 }
+    /// Pushes a value; a text outlives the stack, and nothing is copied. After out of memory, the stack is unchanged, as it
+    /// is for each method below.
+    pub(crate) fn push(&mut self, value: Value<'a>) -> Result<(), AllocError>
+        requires fits { Fits 0 value }
         requires room { length self.old.items < 1000 }
-        ensures ok { OnOk result (self.new ≡ with_items (Txt text.now ∷ self.old.items) self.old) }
+        ensures ok { OnOk result (self.new ≡ with_items (item_in [] value.entry ∷ self.old.items) self.old) }
         ensures err { OnErr result (self.new ≡ self.old) }
     {
-        self.values.push(Value::Given(text))?;
-        Ok(())
-    }
-
-    /// Pushes a quoted name.
-    pub fn push_name(&mut self, name: Target) -> Result<(), AllocError>
-        requires { length self.old.items < 1000 }
-        ensures ok { OnOk result (self.new ≡ with_items (Fun (Name name) ∷ self.old.items) self.old) }
-        ensures err { OnErr result (self.new ≡ self.old) }
-    {
-        self.values.push(Value::Name(name))?;
-        Ok(())
-    }
-
-    /// Pushes a function in braces.
-    pub fn push_block(&mut self, ops: &'a [Op]) -> Result<(), AllocError>
-        requires { length self.old.items < 1000 }
-        ensures ok { OnOk result (self.new ≡ with_items (Fun (Block (ops_body ops.now)) ∷ self.old.items) self.old) }
-        ensures err { OnErr result (self.new ≡ self.old) }
-    {
-        self.values.push(Value::Block(ops))?;
-        Ok(())
-    }
-
-    /// Pushes a missing field.
-    pub fn push_missing(&mut self, field: usize) -> Result<(), AllocError>
-        requires { length self.old.items < 1000 }
-        ensures ok { OnOk result (self.new ≡ with_items (Missing field ∷ self.old.items) self.old) }
-        ensures err { OnErr result (self.new ≡ self.old) }
-    {
-        self.values.push(Value::Missing(field))?;
+        self.values.push(value)?;
         Ok(())
     }
 

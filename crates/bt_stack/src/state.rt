@@ -1,6 +1,7 @@
 //! What a step works on, and how it reports what goes wrong.
 
 use crate::stack::Stack;
+use crate::value::Value;
 use bt_actions::{Complaint, Entry, Flow, STACK_LIMIT};
 use bt_names::SoundPatterns;
 use bt_style::{Builtin, Op, Target};
@@ -96,7 +97,7 @@ impl<'a> State<'a> {
         ensures { IfOk result (Acts (pushed (Num number)) self.old self.new) }
     {
         if self.stack.len() < STACK_LIMIT {
-            self.stack.push_number(number)?;
+            self.stack.push(Value::Number(number))?;
             Ok(Flow::Go)
         } else {
             self.pass_stack_limit()
@@ -110,7 +111,7 @@ impl<'a> State<'a> {
         if self.stack.len() >= STACK_LIMIT || text.len() > TEXT_BYTES {
             return self.pass_text_limit();
         }
-        self.stack.push_given(text)?;
+        self.stack.push(Value::Given(text))?;
         Ok(Flow::Go)
     }
 
@@ -119,7 +120,7 @@ impl<'a> State<'a> {
         ensures { IfOk result (Acts (pushed (Fun (Name name))) self.old self.new) }
     {
         if self.stack.len() < STACK_LIMIT {
-            self.stack.push_name(name)?;
+            self.stack.push(Value::Name(name))?;
             Ok(Flow::Go)
         } else {
             self.pass_stack_limit()
@@ -131,7 +132,7 @@ impl<'a> State<'a> {
         ensures { IfOk result (Acts (pushed (Fun (Block (ops_body ops.now)))) self.old self.new) }
     {
         if self.stack.len() < STACK_LIMIT {
-            self.stack.push_block(ops)?;
+            self.stack.push(Value::Block(ops))?;
             Ok(Flow::Go)
         } else {
             self.pass_stack_limit()
@@ -143,7 +144,7 @@ impl<'a> State<'a> {
         ensures { IfOk result (Acts (pushed (Missing field)) self.old self.new) }
     {
         if self.stack.len() < STACK_LIMIT {
-            self.stack.push_missing(field)?;
+            self.stack.push(Value::Missing(field))?;
             Ok(Flow::Go)
         } else {
             self.pass_stack_limit()

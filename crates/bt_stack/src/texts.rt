@@ -11,11 +11,11 @@ ghost use Rattle.bt_actions.specs.World.{Goes, say, with_stack};
 ghost use Rattle.bt_style.specs.declared.builtin.Builtin.TheVariants as builtin;
 ghost use Rattle.bt_stack.specs.Forms.{number_or_error};
 ghost use Rattle.bt_stack.specs.Tops.{joined_tops, top_len};
-ghost use Rattle.bt_stack.specs.View.{world_of, Acts};
+ghost use Rattle.bt_stack.specs.View.{Acts};
 ghost use Rattle.bt_stack.specs.inner.Converted.{case_told, case_asked, case_answer};
-ghost use Rattle.bt_stack.specs.inner.Part.{IsPart, part_asked, text_of_prefix, prefix_asked};
+ghost use Rattle.bt_stack.specs.inner.Part.{IsPart, part_asked, prefix_asked};
 
-use crate::forms::{OfTextToNumber, OfTextToText, answer_bytes};
+use crate::forms::{OfTextToNumber, OfTextToText, answer_bytes, answer_page};
 use crate::stack::Stack;
 use crate::state::State;
 use bt_actions::{Complaint, Flow};
@@ -40,13 +40,7 @@ pub fn count_fitting(builtin: Builtin, count: usize) -> Result<i32, Complaint>
 pub struct TextLength;
 
 impl OfTextToNumber for TextLength {
-    ghost builtin = { builtin.TextLength };
-
     ghost value = { length_of };
-
-    fn builtin() -> Builtin {
-        Builtin::TextLength
-    }
 
     fn of(_alloc: Global, text: &[u8]) -> Result<Result<i32, Complaint>, AllocError> {
         Ok(count_fitting(Builtin::TextLength, text_length(text)))
@@ -57,13 +51,7 @@ impl OfTextToNumber for TextLength {
 pub struct Width;
 
 impl OfTextToNumber for Width {
-    ghost builtin = { builtin.Width };
-
     ghost value = { width_given };
-
-    fn builtin() -> Builtin {
-        Builtin::Width
-    }
 
     fn of(_alloc: Global, text: &[u8]) -> Result<Result<i32, Complaint>, AllocError> {
         Ok(count_fitting(Builtin::Width, width(text) as usize))
@@ -74,13 +62,7 @@ impl OfTextToNumber for Width {
 pub struct Purify;
 
 impl OfTextToText for Purify {
-    ghost builtin = { builtin.Purify };
-
     ghost value = { purified };
-
-    fn builtin() -> Builtin {
-        Builtin::Purify
-    }
 
     fn write(text: &[u8], page: &mut Vec<u8>) -> Result<(), AllocError> {
         push_purified(page, text)
@@ -91,13 +73,7 @@ impl OfTextToText for Purify {
 pub struct AddPeriod;
 
 impl OfTextToText for AddPeriod {
-    ghost builtin = { builtin.AddPeriod };
-
     ghost value = { with_period };
-
-    fn builtin() -> Builtin {
-        Builtin::AddPeriod
-    }
 
     fn write(text: &[u8], page: &mut Vec<u8>) -> Result<(), AllocError> {
         push_with_period(page, text)
@@ -219,7 +195,7 @@ fn answer_converted(state: &mut State, told: Result<Bytes, Complaint>) -> Result
 
 /// `change.case$` of other values.
 #[cold]
-#[tactic(auto, using(crate::proofs::CaseLemmas::case_refused))]
+#[tactic(auto, using(crate::proofs::FormLemmas::two_refused))]
 fn refuse_case(state: &mut State) -> Result<Flow, AllocError>
     requires { case_asked state.old.stack.items ≡ None }
     ensures { IfOk result (Acts (λ world.
@@ -243,25 +219,9 @@ pub fn convert_case(state: &mut State, alloc: Global) -> Result<Flow, AllocError
     }
 }
 
-/// The prefix that the two topmost values ask for, written on an empty page, if they are a text and a number. The text
-/// is borrowed only here, so the caller can change the stack.
-fn prefix_tops(page: Vec<u8>, stack: &Stack) -> Result<Option<Bytes>, AllocError>
-    requires { page.items ≡ [] }
-    ensures { IfOk result (λ prefix. prefix ≡ option_map text_of_prefix (prefix_asked stack.now.items)) }
-{
-    match (stack.text_at(1), stack.number_at(0)) {
-        (Some(text), Some(most)) => {
-            let mut page = page;
-            push_prefix(&mut page, text, most)?;
-            Ok(Some(Bytes::from_vec(page)))
-        }
-        _ => Ok(None),
-    }
-}
-
 /// `text.prefix$` of other values.
 #[cold]
-#[tactic(auto, using(crate::proofs::PartLemmas::prefix_refused))]
+#[tactic(auto, using(crate::proofs::FormLemmas::two_refused))]
 fn refuse_prefix(state: &mut State) -> Result<Flow, AllocError>
     requires { prefix_asked state.old.stack.items ≡ None }
     ensures { IfOk result (Acts (λ world.
@@ -278,9 +238,15 @@ pub fn prefix(state: &mut State, alloc: Global) -> Result<Flow, AllocError>
     ensures { IfOk result (Acts (λ world.
         valued prefix_of empty_item (taken_two builtin.TextPrefix as_text as_number world)) state.old state.new) }
 {
-    let page = state.stack.take_page(alloc);
-    match prefix_tops(page, &state.stack)? {
-        Some(prefix) => answer_bytes(state, 2, prefix),
+    let mut page = state.stack.take_page(alloc);
+    match state.stack.number_at(0) {
+        Some(most) => match state.stack.text_at(1) {
+            Some(text) => {
+                push_prefix(&mut page, text, most)?;
+                answer_page(state, 2, page)
+            }
+            None => refuse_prefix(state),
+        },
         None => refuse_prefix(state),
     }
 }
@@ -299,7 +265,7 @@ fn part_tops(stack: &Stack) -> Option<(usize, usize)>
 
 /// `substring$` of other values.
 #[cold]
-#[tactic(auto, using(crate::proofs::PartLemmas::part_refused))]
+#[tactic(auto, using(crate::proofs::FormLemmas::three_refused))]
 fn refuse_part(state: &mut State) -> Result<Flow, AllocError>
     requires { part_asked state.old.stack.items ≡ None }
     ensures { IfOk result (Acts (λ world.

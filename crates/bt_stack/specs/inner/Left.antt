@@ -1,5 +1,5 @@
 -- What the variables are that a step leaves.
-use Rattle.std.specs.Prelude.{ℕ, ℤ, List, [], ◌∷◌, map, Option, Some, None, unwrap_or}
+use Rattle.std.specs.Prelude.{ℕ, ℤ, List, [], ◌∷◌, map, Option, unwrap_or}
 use Rattle.bt_actions.specs.declared.entry.Variables.{Variables}
 use Rattle.bt_actions.specs.Arguments.{as_text}
 use Rattle.bt_stack.specs.declared.value.Value.{Value}

@@ -1,7 +1,7 @@
--- What `substring$` and `text.prefix$` ask for, and what they are told.
+-- What `substring$`, `text.prefix$` and `format.name$` ask for.
 use Rattle.std.specs.Prelude.{◌≡◌, ℕ, ℤ, ◌≤◌, List, length, take, drop, Option, Some, option_and_then, slice_get}
 use Rattle.std.specs.Option.{option_zip}
-use Rattle.bt_text.specs.Substrings.{substring_of, text_prefix_of}
+use Rattle.bt_text.specs.Substrings.{substring_of}
 use Rattle.bt_actions.specs.Arguments.{as_number, as_text, all_three}
 use Rattle.bt_actions.specs.Item.{Item}
 
@@ -22,9 +22,12 @@ pub record IsPart (from count : ℕ) (items : List Item) : Type 0 where
   pub short : length text ≤ 65536
   pub part : take count (drop from text) ≡ substring_of text start len
 
-abbrev pub text_of_prefix : List ℕ × ℤ → List ℕ
-text_of_prefix (t, most) = text_prefix_of t most
-
 -- the text and the number on the stack, if they are on top
 abbrev pub prefix_asked : List Item → Option (List ℕ × ℤ)
 prefix_asked items = option_zip (option_and_then as_text (slice_get items 1)) (option_and_then as_number (slice_get items 0))
+
+-- the names, the number and the pattern on the stack, if they are on top
+abbrev pub name_asked : List Item → Option (List ℕ × ℤ × List ℕ)
+name_asked items =
+    all_three (option_and_then as_text (slice_get items 2)) (option_and_then as_number (slice_get items 1))
+    (option_and_then as_text (slice_get items 0))

@@ -3,28 +3,19 @@ use Rattle.bt_stack.specs.declared.value.Value.{Value}
 use Rattle.bt_stack.specs.Desk.{with_globals}
 use Rattle.bt_stack.specs.inner.Kept.{AllFit, items}
 use Rattle.bt_stack.proofs.GrowLemmas.{items_are}
+use Rattle.bt_stack.proofs.TopLemmas.{globals_sound}
 use Rattle.bt_stack.proofs.VariableLemmas.{text_refused}
 use Rattle.bt_stack.proofs.stack.Stack.set_global_text.Goals as goal
 
 pub invariant_of-self : goal.invariant_of-self
 invariant_of-self c = let s = c.self.inside in
     let P : List Value → Type 0 = λ l. AllFit (length s.pool.items) l in
-    record {
-      fit = c.self.invariant.fit;
-      globals_fit = c.set_text.ensures.fit _ (c.in-Some.ensures.fits _ (subst P (sym c.deref.ensures.value) c.self.invariant.fit)) c.self.invariant.globals_fit;
-      own_fit = c.self.invariant.own_fit;
-      few = c.self.invariant.few;
-    }
+    globals_sound _ _ _ _ s.own (c.set_text.ensures.fit _ (c.in-Some.ensures.fits _ (subst P (sym c.deref.ensures.value) c.self.invariant.fit)) c.self.invariant.globals_fit) c.self.invariant
 
 pub invariant_of-self-in-Some : goal.invariant_of-self-in-Some
 invariant_of-self-in-Some c = let s = c.self.inside in
     let P : List Value → Type 0 = λ l. AllFit (length s.pool.items) l in
-    record {
-      fit = c.self.invariant.fit;
-      globals_fit = c.set_text.ensures.fit _ (c.in-Some.ensures.fits _ (subst P (sym c.deref.ensures.value) c.self.invariant.fit)) c.self.invariant.globals_fit;
-      own_fit = c.self.invariant.own_fit;
-      few = c.self.invariant.few;
-    }
+    globals_sound _ _ _ _ s.own (c.set_text.ensures.fit _ (c.in-Some.ensures.fits _ (subst P (sym c.deref.ensures.value) c.self.invariant.fit)) c.self.invariant.globals_fit) c.self.invariant
 
 pub returns-in-None-clause-ok : goal.returns-in-None-clause-ok
 returns-in-None-clause-ok c = let s = c.self.inside in
