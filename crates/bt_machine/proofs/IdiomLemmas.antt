@@ -63,11 +63,16 @@ choice_from p n above other rest r fs (Num m ∷ s) w t calls e few is_rest =
     choice_leads p m above other rest r fs s w t calls (omega (arith, few)) is_rest
     ∙ ap (λ n. left p (Run (by_sign n above other) ∷ Run (Block r) ∷ fs) (with_stack s w) (t, with_call (Some builtin.If) calls)) (sym (same_Some n m e))
 
-pub chosen_at_once : (p : Program) (n m : ℤ) (b : Bool) (above other : Code) (rest after body : List Op) (fs gs : List HeldFrame) (w w' : World) (k k' : Counts) → Some n ≡ option_and_then as_number (slice_get w.stack 0) → length w.stack ≤ 998 → k'.0 + 2 ≡ k.0 → k'.1 ≡ with_call (Some builtin.If) k.1 → ops_body rest ≡ Then (putting other) (Then (Called (target.Builtin builtin.If)) (ops_body after)) → w' ≡ with_stack (drop 1 w.stack) w → ((a c : Code) → by_sign m a c ≡ (if b then a else c)) → m ≡ n → SameLeft (whole body gs) (Run (if b then above else other) ∷ whole after fs) → left p (whole body gs) w' k' ≡ then_go (act p (eval p) (putting above) w k) (left p (whole rest fs))
-chosen_at_once p n m b above other rest after body fs gs w w' k k' e few ticks calls is_rest is_world is_chosen is_n same =
+-- the code's look at the number
+pub above_runs : (n m : ℤ) (b : Bool) (above other : Code) → ((a c : Code) → by_sign m a c ≡ (if b then a else c)) → b ≡ true → m ≡ n → above ≡ by_sign n above other
+above_runs n m b above other is_chosen is_above is_n =
+    sym (ap (λ m. by_sign m above other) (sym is_n) ∙ is_chosen above other ∙ ap (λ b. if b then above else other) is_above)
+
+pub chosen_at_once : (p : Program) (n : ℤ) (above other : Code) (rest after body : List Op) (fs gs : List HeldFrame) (w w' : World) (k k' : Counts) → Some n ≡ option_and_then as_number (slice_get w.stack 0) → length w.stack ≤ 998 → k'.0 + 2 ≡ k.0 → k'.1 ≡ with_call (Some builtin.If) k.1 → ops_body rest ≡ Then (putting other) (Then (Called (target.Builtin builtin.If)) (ops_body after)) → w' ≡ with_stack (drop 1 w.stack) w → SameLeft (whole body gs) (Run (by_sign n above other) ∷ whole after fs) → left p (whole body gs) w' k' ≡ then_go (act p (eval p) (putting above) w k) (left p (whole rest fs))
+chosen_at_once p n above other rest after body fs gs w w' k k' e few ticks calls is_rest is_world same =
     let r : k.0 ≡ suc (suc k'.0) = omega (arith, ticks) in
     same p w' k'
-    ∙ (λ i. left p (Run ((sym (is_chosen above other) ∙ ap (λ n. by_sign n above other) is_n) i) ∷ whole after fs) (is_world i) (k'.0, calls i))
+    ∙ (λ i. left p (Run (by_sign n above other) ∷ whole after fs) (is_world i) (k'.0, calls i))
     ∙ sym (choice_from p n above other rest (ops_body after) (kept fs) w.stack w k'.0 k.1 e few is_rest)
     ∙ ap (λ t. then_go (act p (eval p) (putting above) w (t, k.1)) (left p (whole rest fs))) (sym r)
 

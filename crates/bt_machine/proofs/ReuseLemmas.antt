@@ -1,5 +1,5 @@
 -- What an earlier step leaves for an input that agrees with its own.
-use Rattle.std.proofs.Common.{◌≡◌, ℕ, Bool, true, ◌&&◌, List, refl, sym, ap, ◌∙◌}
+use Rattle.std.proofs.Common.{◌≡◌, ℕ, true, List, refl, sym, ap, ◌∙◌}
 use Rattle.bt_style.specs.declared.style.Target.{Target}
 use Rattle.bt_style.specs.Program.{Program}
 use Rattle.bt_style.specs.Reach.{is_among}
@@ -11,15 +11,12 @@ use Rattle.bt_machine.specs.Footprint.{blend_variables}
 use Rattle.bt_machine.specs.inner.Footprint.{among}
 use Rattle.bt_machine.specs.AgreementLaws.{Agree, IsFootprint, outcome_over}
 use Rattle.bt_machine.specs.Agreement.{same_counts, same_variables}
-use Rattle.bt_machine.proofs.Truths.{and_both}
 use Rattle.bt_machine.proofs.Comparing.{variables_equal}
 use Rattle.bt_machine.proofs.Agreeing.{agreeing_inputs, agreeing_reach, rest_stays}
 
 -- variables that have all that was left
-pub has_left : (ns ts : List ℕ) (v b : Variables) (c : Bool) → c ≡ (same_counts v b && same_variables ns ts v b) → c ≡ true → b ≡ blend_variables (among ns) (among ts) v b
-has_left ns ts v b c e h =
-    let a = and_both (same_counts v b) (same_variables ns ts v b) (sym e ∙ h) in
-    sym (variables_equal (among ns) (among ts) ns ts v b (λ n. refl) (λ n. refl) a.0 a.1)
+pub has_left : (ns ts : List ℕ) (v b : Variables) → same_counts v b ≡ true → same_variables ns ts v b ≡ true → b ≡ blend_variables (among ns) (among ts) v b
+has_left ns ts v b counts values = sym (variables_equal (among ns) (among ts) ns ts v b (λ n. refl) (λ n. refl) counts values)
 
 -- an earlier step left all else as it was
 pub earlier_rest : (p : Program) (names : List Target) (i j : Input) (o : Outcome) → o ≡ outcome_of (step_in p i) → IsFootprint p j names → Agree (is_among names) i j → o ≡ outcome_over (is_among names) i o

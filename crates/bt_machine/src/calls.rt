@@ -12,14 +12,14 @@ ghost use Rattle.bt_machine.specs.Eval.{Counts, Runner, acted, eval, called, bui
 ghost use Rattle.bt_machine.specs.declared.control.Frame.{Frame as HeldFrame};
 ghost use Rattle.bt_machine.specs.inner.Loop.{LeadsTo, Means, followed, left, run_ended, whole};
 
-use crate::control::{Frame, begin, begin_loop, keep};
-use bt_actions::{Code, Complaint, Entry, Flow};
+use crate::control::{Context, Frame, begin, begin_loop, keep};
+use bt_actions::{Complaint, Entry, Flow};
 use bt_stack::{
     State, call_basic, call_entry_number, call_entry_text, call_field, call_global_number,
     call_global_text, take_choice, take_loop,
 };
 use bt_style::{Builtin, Function, Op, Style, Target};
-use std::alloc::{AllocError, Global};
+use std::alloc::AllocError;
 
 /// What comes after an element.
 #[derive(Clone, Copy)]
@@ -171,18 +171,17 @@ fn is_basic(builtin: Builtin) -> bool
 fn call_any<'a>(
     state: &mut State<'a>,
     control: &mut Vec<Frame<'a>>,
-    alloc: Global,
-    style: &'a Style,
+    context: Context<'a>,
     builtin: Builtin,
     rest: &'a [Op],
 ) -> Result<Next<'a>, AllocError>
-    ensures leads { let p = program_of style.now in IfOk result (λ next. LeadsTo p state.old state.new
+    ensures leads { let p = program_of context.entry.style.now in IfOk result (λ next. LeadsTo p state.old state.new
         (built_in p (eval p) builtin) rest.now control.old.items next control.new.items) }
     ensures more { OnOk result (length control.new.items ≤ length control.old.items + 4) }
 {
     match builtin {
         Builtin::CallType => {
-            let next = call_type(state, control, style, rest)?;
+            let next = call_type(state, control, context.style, rest)?;
             Ok(next)
         }
         Builtin::If => {
@@ -193,7 +192,10 @@ fn call_any<'a>(
             let next = repeat(state, control, rest)?;
             Ok(next)
         }
-        _ => Ok(next_after(call_basic(state, alloc, style, builtin)?, rest)),
+        _ => Ok(next_after(
+            call_basic(state, context.alloc, context.style, builtin)?,
+            rest,
+        )),
     }
 }
 
@@ -202,16 +204,15 @@ fn call_any<'a>(
 fn call_runner<'a>(
     state: &mut State<'a>,
     control: &mut Vec<Frame<'a>>,
-    alloc: Global,
-    style: &'a Style,
+    context: Context<'a>,
     builtin: Builtin,
     rest: &'a [Op],
 ) -> Result<Next<'a>, AllocError>
-    ensures leads { let p = program_of style.now in IfOk result (λ next. LeadsTo p state.old state.new
+    ensures leads { let p = program_of context.entry.style.now in IfOk result (λ next. LeadsTo p state.old state.new
         (built_in p (eval p) builtin) rest.now control.old.items next control.new.items) }
     ensures more { OnOk result (length control.new.items ≤ length control.old.items + 4) }
 {
-    let next = call_any(state, control, alloc, style, builtin, rest)?;
+    let next = call_any(state, control, context, builtin, rest)?;
     Ok(next)
 }
 
@@ -220,20 +221,19 @@ fn call_runner<'a>(
 fn call_builtin<'a>(
     state: &mut State<'a>,
     control: &mut Vec<Frame<'a>>,
-    alloc: Global,
-    style: &'a Style,
+    context: Context<'a>,
     builtin: Builtin,
     rest: &'a [Op],
 ) -> Result<Next<'a>, AllocError>
-    ensures leads { let p = program_of style.now in IfOk result (λ next. LeadsTo p state.old state.new
+    ensures leads { let p = program_of context.entry.style.now in IfOk result (λ next. LeadsTo p state.old state.new
         (built_in p (eval p) builtin) rest.now control.old.items next control.new.items) }
     ensures more { OnOk result (length control.new.items ≤ length control.old.items + 4) }
 {
     if is_basic(builtin) {
-        let flow = call_basic(state, alloc, style, builtin)?;
+        let flow = call_basic(state, context.alloc, context.style, builtin)?;
         Ok(next_after(flow, rest))
     } else {
-        call_runner(state, control, alloc, style, builtin, rest)
+        call_runner(state, control, context, builtin, rest)
     }
 }
 
@@ -241,18 +241,17 @@ fn call_builtin<'a>(
 pub fn call<'a>(
     state: &mut State<'a>,
     control: &mut Vec<Frame<'a>>,
-    alloc: Global,
-    style: &'a Style,
+    context: Context<'a>,
     target: Target,
     rest: &'a [Op],
 ) -> Result<Next<'a>, AllocError>
-    ensures leads { let p = program_of style.now in IfOk result (λ next. LeadsTo p state.old state.new
+    ensures leads { let p = program_of context.entry.style.now in IfOk result (λ next. LeadsTo p state.old state.new
         (called p (eval p) target) rest.now control.old.items next control.new.items) }
     ensures more { OnOk result (length control.new.items ≤ length control.old.items + 4) }
 {
     match target {
         Target::Builtin(builtin) => {
-            let next = call_builtin(state, control, alloc, style, builtin, rest)?;
+            let next = call_builtin(state, control, context, builtin, rest)?;
             Ok(next)
         }
         Target::Field(n) => Ok(next_after(call_field(state, n)?, rest)),
@@ -261,7 +260,7 @@ pub fn call<'a>(
         Target::GlobalNumber(n) => Ok(next_after(call_global_number(state, n)?, rest)),
         Target::GlobalText(n) => Ok(next_after(call_global_text(state, n)?, rest)),
         Target::Function(n) => {
-            let next = enter(control, style, n, rest)?;
+            let next = enter(control, context.style, n, rest)?;
             Ok(next)
         }
     }
@@ -272,14 +271,13 @@ pub fn call<'a>(
 pub fn call_quoted<'a>(
     state: &mut State<'a>,
     control: &mut Vec<Frame<'a>>,
-    alloc: Global,
-    style: &'a Style,
+    context: Context<'a>,
     target: Target,
     rest: &'a [Op],
 ) -> Result<Next<'a>, AllocError>
-    ensures leads { let p = program_of style.now in IfOk result (λ next. LeadsTo p state.old state.new
+    ensures leads { let p = program_of context.entry.style.now in IfOk result (λ next. LeadsTo p state.old state.new
         (called p (eval p) target) rest.now control.old.items next control.new.items) }
     ensures more { OnOk result (length control.new.items ≤ length control.old.items + 4) }
 {
-    call(state, control, alloc, style, target, rest)
+    call(state, control, context, target, rest)
 }

@@ -10,8 +10,8 @@ ghost use Rattle.bt_machine.specs.Eval.{builtin_called};
 ghost use Rattle.bt_machine.specs.inner.Loop.{Run, Test, SameLeft, kept, whole, IsDue};
 
 use bt_actions::Code;
-use bt_style::{Builtin, Op, Target};
-use std::alloc::AllocError;
+use bt_style::{Builtin, Op, Style, Target};
+use std::alloc::{AllocError, Global};
 
 /// What waits until a body has run.
 #[derive(Clone, Copy)]
@@ -20,6 +20,13 @@ pub enum Frame<'a> {
     Run(Code<'a>),
     /// A loop's test, which has run, and its body: the number that the test left decides on a turn of the body.
     Test(Code<'a>, Code<'a>),
+}
+
+/// What a step runs with, and never changes.
+#[derive(Clone, Copy)]
+pub struct Context<'a> {
+    pub alloc: Global,
+    pub style: &'a Style,
 }
 
 /// The built-in function that a call of a name calls.

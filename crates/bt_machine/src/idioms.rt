@@ -16,7 +16,7 @@ ghost use Rattle.bt_actions.specs.View.{code_seen};
 ghost use Rattle.bt_actions.specs.World.{with_stack};
 ghost use Rattle.bt_stack.specs.View.{world_of};
 ghost use Rattle.bt_machine.specs.Eval.{eval, act, builtin_called, by_sign};
-ghost use Rattle.bt_machine.specs.inner.Loop.{Run, ComesTo, SameLeft, putting, whole};
+ghost use Rattle.bt_machine.specs.inner.Loop.{ComesTo, SameLeft, putting, by_if, whole};
 
 use crate::calls::{Next, next_after};
 use crate::control::{Frame, begin, called_by};
@@ -77,26 +77,34 @@ fn assignment_behind(rest: &[Op]) -> Option<&[Op]>
     }
 }
 
-/// The number, the other function and what comes after `if$`, if all are there, with ticks and places for each element.
+/// What an `if$` after a function needs beside it.
+#[derive(Clone, Copy)]
+struct Choice<'a> {
+    number: i32,
+    other: Code<'a>,
+    after: &'a [Op],
+}
+
+/// The choice after the first function, if all of it is there, with ticks and places for each element.
 #[inline(always)]
-fn choice_ahead<'a>(
-    state: &State<'a>,
-    tally: &Tally,
-    rest: &'a [Op],
-) -> Option<(i32, Code<'a>, &'a [Op])>
+fn choice_ahead<'a>(state: &State<'a>, tally: &Tally, rest: &'a [Op]) -> Option<Choice<'a>>
     ensures ticks { IfSome result (λ all. 2 ≤ tally.now.ticks) }
     ensures few { IfSome result (λ all. length (world_of state.now).stack ≤ 998) }
     ensures number { IfSome result (λ all.
-        Some all.0 ≡ option_and_then as_number (slice_get (world_of state.now).stack 0)) }
+        Some all.number ≡ option_and_then as_number (slice_get (world_of state.now).stack 0)) }
     ensures behind { IfSome result (λ all. ops_body rest.now
-        ≡ Then (putting (code_seen all.1)) (Then (Called (target.Builtin builtin.If)) (ops_body all.2.now))) }
+        ≡ Then (putting (code_seen all.other)) (Then (Called (target.Builtin builtin.If)) (ops_body all.after.now))) }
 {
     if tally.ticks < 2 || state.stack.len() > STACK_LIMIT - 2 {
         return None;
     }
     let (other, after) = choice_behind(rest)?;
     let number = state.stack.number_at(0)?;
-    Some((number, other, after))
+    Some(Choice {
+        number,
+        other,
+        after,
+    })
 }
 
 /// Whether `if$` runs the first of its functions.
@@ -112,10 +120,8 @@ fn choose_at_once<'a>(
     state: &mut State<'a>,
     control: &mut Vec<Frame<'a>>,
     tally: &mut Tally,
-    is_above: bool,
     above: Code<'a>,
-    other: Code<'a>,
-    after: &'a [Op],
+    choice: Choice<'a>,
 ) -> Result<&'a [Op], AllocError>
     requires ticks { 2 ≤ tally.old.ticks }
     requires number { 0 < length state.old.stack.items }
@@ -123,17 +129,17 @@ fn choose_at_once<'a>(
     ensures calls { OnOk result (tally.new.calls ≡ with_call (Some builtin.If) tally.old.calls) }
     ensures world { OnOk result (world_of state.new
         ≡ with_stack (drop 1 (world_of state.old).stack) (world_of state.old)) }
-    ensures same { IfOk result (λ body. SameLeft (whole body.now control.new.items)
-        (Run (if is_above then code_seen above.entry else code_seen other.entry) ∷ whole after.now control.old.items)) }
+    ensures same { IfOk result (λ ops. SameLeft (whole ops.now control.new.items)
+        (by_if choice.entry.number above.entry choice.entry.other ∷ whole choice.entry.after.now control.old.items)) }
     ensures more { OnOk result (length control.new.items ≤ length control.old.items + 4) }
 {
     tally.take(None);
     tally.take(Some(Builtin::If));
     state.stack.drop_tops(1);
-    if is_above {
-        begin(control, after, above)
+    if is_above(choice.number) {
+        begin(control, choice.after, above)
     } else {
-        begin(control, after, other)
+        begin(control, choice.after, choice.other)
     }
 }
 
@@ -153,10 +159,8 @@ pub fn put_block<'a>(
     ensures more { OnOk result (length control.new.items ≤ length control.old.items + 4) }
 {
     match choice_ahead(state, tally, rest) {
-        Some((number, other, after)) => {
-            let first = is_above(number);
-            let above = Code::Block(above);
-            let body = choose_at_once(state, control, tally, first, above, other, after)?;
+        Some(choice) => {
+            let body = choose_at_once(state, control, tally, Code::Block(above), choice)?;
             Ok(Next::Body(body))
         }
         None => Ok(next_after(state.push_block(above)?, rest)),
@@ -184,21 +188,17 @@ fn put_quoted<'a>(
     state: &mut State<'a>,
     control: &mut Vec<Frame<'a>>,
     tally: &mut Tally,
-    op: &'a Op,
     name: Target,
     rest: &'a [Op],
 ) -> Result<Next<'a>, AllocError>
-    requires { element_of op.now ≡ Quoted name }
     ensures leads { (p : Program) → IfOk result (λ next. ComesTo p state.old tally.old state.new tally.new
-        (act p (eval p) (element_of op.now)) rest.now control.old.items next control.new.items) }
+        (act p (eval p) (Quoted name)) rest.now control.old.items next control.new.items) }
     ensures ticks { OnOk result (tally.new.ticks ≤ tally.old.ticks) }
     ensures more { OnOk result (length control.new.items ≤ length control.old.items + 4) }
 {
     match choice_ahead(state, tally, rest) {
-        Some((number, other, after)) => {
-            let first = is_above(number);
-            let above = Code::Name(name);
-            let body = choose_at_once(state, control, tally, first, above, other, after)?;
+        Some(choice) => {
+            let body = choose_at_once(state, control, tally, Code::Name(name), choice)?;
             Ok(Next::Body(body))
         }
         None => Ok(next_after(state.push_name(name)?, rest)),
@@ -210,13 +210,11 @@ pub fn put_name<'a>(
     state: &mut State<'a>,
     control: &mut Vec<Frame<'a>>,
     tally: &mut Tally,
-    op: &'a Op,
     name: Target,
     rest: &'a [Op],
 ) -> Result<Next<'a>, AllocError>
-    requires { element_of op.now ≡ Quoted name }
     ensures leads { (p : Program) → IfOk result (λ next. ComesTo p state.old tally.old state.new tally.new
-        (act p (eval p) (element_of op.now)) rest.now control.old.items next control.new.items) }
+        (act p (eval p) (Quoted name)) rest.now control.old.items next control.new.items) }
     ensures ticks { OnOk result (tally.new.ticks ≤ tally.old.ticks) }
     ensures more { OnOk result (length control.new.items ≤ length control.old.items + 4) }
 {
@@ -226,6 +224,6 @@ pub fn put_name<'a>(
             assign_value(state, name)?;
             Ok(Next::Body(after))
         }
-        None => put_quoted(state, control, tally, op, name, rest),
+        None => put_quoted(state, control, tally, name, rest),
     }
 }

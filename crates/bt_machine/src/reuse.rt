@@ -4,10 +4,9 @@
 //! always one of the two is equal to it as a whole. So the whole is compared first, and shared; a copy with single
 //! values put in (`substitution`) is rare.
 
-ghost use Rattle.std.specs.Prelude.{◌≡◌, ◌&&◌, IsTrue, IfOk, option_map};
+ghost use Rattle.std.specs.Prelude.{◌≡◌, IsTrue, IfOk, option_map};
 ghost use Rattle.bt_style.specs.Reach.{is_among, keeps_held};
 ghost use Rattle.bt_machine.specs.AgreementLaws.{IsNextOutcome, outcome_over, own_over};
-ghost use Rattle.bt_machine.specs.Agreement.{same_counts, same_variables};
 ghost use Rattle.bt_machine.specs.Footprint.{blend_globals, pick};
 ghost use Rattle.bt_machine.specs.inner.Substitution.{blend_at};
 
@@ -28,15 +27,7 @@ pub fn equal_variables(old: &Variables, new: &Variables) -> bool
     same_counts(old, new) && old.numbers.is_same(&new.numbers) && old.texts.is_same(&new.texts)
 }
 
-/// Whether `base` has as many values as `left`, and the same ones at these places.
-fn has_left(left: &Variables, base: &Variables, places: Places<'_>) -> bool
-    ensures { result ≡ (same_counts left.now base.now
-        && same_variables places.entry.numbers.now places.entry.texts.now left.now base.now) }
-{
-    same_counts(left, base) && same_variables(left, base, places.numbers, places.texts)
-}
-
-/// Shares `base` if it has the values of `left` at these places already.
+/// Shares `base` if it has as many values as `left`, and the same ones at these places.
 fn left_at(
     alloc: Global,
     left: &Variables,
@@ -45,7 +36,7 @@ fn left_at(
 ) -> Result<Shared<Variables>, AllocError>
     ensures { IfOk result (λ both. both ≡ blend_at places.entry left.now base.now) }
 {
-    if has_left(left, base, places) {
+    if same_counts(left, base) && same_variables(left, base, places.numbers, places.texts) {
         return base.share();
     }
     Shared::new(alloc, variables_over(alloc, left, base, places)?)
@@ -128,27 +119,6 @@ fn shared_messages(alloc: Global, messages: &[Message]) -> Result<Sequence<Messa
     Ok(same)
 }
 
-fn over(
-    alloc: Global,
-    old: &Input,
-    left: &Outcome,
-    new: &Input,
-    reach: &Reach,
-) -> Result<Outcome, AllocError>
-    requires { left.now ≡ outcome_over (is_among reach.now.targets) old.now left.now }
-    ensures { IfOk result (λ outcome. outcome ≡ outcome_over (is_among reach.now.targets) new.now left.now) }
-{
-    Ok(Outcome {
-        globals: globals_left(alloc, old, left, new, reach)?,
-        variables: owns_left(alloc, old, left, new, reach)?,
-        held: held_left(alloc, &left.held, &new.held, reach)?,
-        lines: share_texts(alloc, left.lines.as_slice())?,
-        messages: shared_messages(alloc, left.messages.as_slice())?,
-        stop: left.stop,
-        calls: left.calls,
-    })
-}
-
 /// What a step leaves, made from what an earlier step left (`left`), whose input agrees with this step's in all that it
 /// can reach. Reached values come from the earlier outcome, all others from this step's input. Lines are shared. So are
 /// the globals and the entry's variables, if the earlier step began with the same ones or left what is there now;
@@ -164,5 +134,13 @@ pub fn left_over(
     ensures over { IfOk result (λ outcome. outcome ≡ outcome_over (is_among reach.now.targets) new.now left.now) }
     ensures step { IfOk result (IsNextOutcome reach.now.targets old.now left.now new.now) }
 {
-    over(alloc, old, left, new, reach)
+    Ok(Outcome {
+        globals: globals_left(alloc, old, left, new, reach)?,
+        variables: owns_left(alloc, old, left, new, reach)?,
+        held: held_left(alloc, &left.held, &new.held, reach)?,
+        lines: share_texts(alloc, left.lines.as_slice())?,
+        messages: shared_messages(alloc, left.messages.as_slice())?,
+        stop: left.stop,
+        calls: left.calls,
+    })
 }

@@ -22,12 +22,12 @@ ghost use Rattle.bt_machine.specs.inner.Cases.{counts_begun};
 ghost use Rattle.bt_machine.specs.inner.Loop.{counts, run_ended, ComesTo, IsCalled, is_above, op_run};
 
 use crate::calls::{Next, call, call_quoted, next_after};
-use crate::control::{Due, Frame, begin, begin_loop, builtin_of, called_by, next_due};
+use crate::control::{Context, Due, Frame, begin, begin_loop, builtin_of, called_by, next_due};
 use crate::idioms::{put_block, put_name};
 use bt_actions::{Code, Complaint, Flow, Tally};
 use bt_stack::{State, take_number};
-use bt_style::{Builtin, Op, Style, Target};
-use std::alloc::{AllocError, Global};
+use bt_style::{Builtin, Op, Target};
+use std::alloc::AllocError;
 
 /// How many frames there is room for at a step's beginning. Most steps need no more; it is 1,008 bytes.
 const FIRST_FRAMES: usize = 18;
@@ -57,13 +57,12 @@ fn carry_out<'a>(
     state: &mut State<'a>,
     control: &mut Vec<Frame<'a>>,
     tally: &mut Tally,
-    alloc: Global,
-    style: &'a Style,
+    context: Context<'a>,
     op: &'a Op,
     rest: &'a [Op],
 ) -> Result<Next<'a>, AllocError>
-    ensures leads { let p = program_of style.now in IfOk result (λ next. ComesTo p state.old tally.old state.new tally.new
-        (op_run p op.now) rest.now control.old.items next control.new.items) }
+    ensures leads { let p = program_of context.entry.style.now in IfOk result (λ to. ComesTo p state.old tally.old state.new tally.new
+        (op_run p op.now) rest.now control.old.items to control.new.items) }
     ensures ticks { OnOk result (tally.new.ticks ≤ tally.old.ticks) }
     ensures more { OnOk result (length control.new.items ≤ length control.old.items + 4) }
 {
@@ -71,7 +70,7 @@ fn carry_out<'a>(
         Op::Number(n) => Ok(next_after(state.push_number(*n)?, rest)),
         Op::Text(text) => Ok(next_after(state.push_given(text.as_slice())?, rest)),
         Op::Quote(target) => {
-            let next = put_name(state, control, tally, op, *target, rest)?;
+            let next = put_name(state, control, tally, *target, rest)?;
             Ok(next)
         }
         Op::Block(ops) => {
@@ -79,7 +78,7 @@ fn carry_out<'a>(
             Ok(next)
         }
         Op::Call(target) => {
-            let next = call(state, control, alloc, style, *target, rest)?;
+            let next = call(state, control, context, *target, rest)?;
             Ok(next)
         }
     }
@@ -97,12 +96,11 @@ fn call_due<'a>(
     state: &mut State<'a>,
     control: &mut Vec<Frame<'a>>,
     tally: &mut Tally,
-    alloc: Global,
-    style: &'a Style,
+    context: Context<'a>,
     name: Target,
     rest: &'a [Op],
 ) -> Result<Option<&'a [Op]>, AllocError>
-    ensures leads { IfOk result (λ next. IsCalled (program_of style.now) state.old tally.old state.new tally.new
+    ensures leads { IfOk result (λ next. IsCalled (program_of context.entry.style.now) state.old tally.old state.new tally.new
         name rest.now control.old.items next control.new.items) }
     ensures ticks { IfOk result (λ next. IfSome next (λ body. tally.new.ticks < tally.old.ticks)) }
     ensures more { OnOk result (length control.new.items ≤ length control.old.items + 4) }
@@ -115,7 +113,7 @@ fn call_due<'a>(
     if is_skip(name) {
         return Ok(Some(rest));
     }
-    let next = call_quoted(state, control, alloc, style, name, rest)?;
+    let next = call_quoted(state, control, context, name, rest)?;
     match next {
         Next::Stop => Ok(None),
         Next::Body(body) => Ok(Some(body)),
@@ -127,14 +125,13 @@ fn call_due<'a>(
 fn run_all<'a>(
     state: &mut State<'a>,
     tally: &mut Tally,
-    alloc: Global,
-    style: &'a Style,
+    context: Context<'a>,
     first: Target,
 ) -> Result<Flow, AllocError>
     ensures { IfOk result (λ flow. run_ended flow (world_of state.new) (counts tally.new)
-        ≡ eval (program_of style.now) (Then (Called first) End) (world_of state.old) (counts tally.old)) }
+        ≡ eval (program_of context.entry.style.now) (Then (Called first) End) (world_of state.old) (counts tally.old)) }
 {
-    let mut control = Vec::with_capacity(alloc, FIRST_FRAMES)?;
+    let mut control = Vec::with_capacity(context.alloc, FIRST_FRAMES)?;
     control.push(Frame::Run(Code::Name(first)))?;
     let mut rest: &'a [Op] = &[];
     'work: loop {
@@ -145,7 +142,7 @@ fn run_all<'a>(
                     return Ok(Flow::Stop);
                 }
                 tally.take(called_by(op));
-                let next = carry_out(state, &mut control, tally, alloc, style, op, after)?;
+                let next = carry_out(state, &mut control, tally, context, op, after)?;
                 // The loop's measure needs this call's clause that the stack is small.
                 let _depth = state.stack.len();
                 match next {
@@ -163,7 +160,7 @@ fn run_all<'a>(
                     }
                 }
                 Due::Name(name) => {
-                    let next = call_due(state, &mut control, tally, alloc, style, name, rest)?;
+                    let next = call_due(state, &mut control, tally, context, name, rest)?;
                     let _depth = state.stack.len();
                     match next {
                         Some(body) => rest = body,
@@ -181,15 +178,14 @@ fn run_all<'a>(
 pub fn work<'a>(
     state: &mut State<'a>,
     end: &mut Tally,
-    alloc: Global,
-    style: &'a Style,
+    context: Context<'a>,
     first: Target,
 ) -> Result<Flow, AllocError>
     ensures { IfOk result (λ flow. run_ended flow (world_of state.new) (counts end.new)
-        ≡ eval (program_of style.now) (Then (Called first) End) (world_of state.old) counts_begun) }
+        ≡ eval (program_of context.entry.style.now) (Then (Called first) End) (world_of state.old) counts_begun) }
 {
     let mut tally = Tally::new();
-    let flow = run_all(state, &mut tally, alloc, style, first)?;
+    let flow = run_all(state, &mut tally, context, first)?;
     *end = tally;
     Ok(flow)
 }

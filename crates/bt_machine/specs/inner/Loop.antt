@@ -6,6 +6,7 @@ use Rattle.bt_style.specs.declared.style.Target.{Target}
 use Rattle.bt_style.specs.Program.{Program}
 use Rattle.bt_style.specs.Tree.{Element, Quoted, Braced, Called, End, Then, element_of, ops_body}
 use Rattle.bt_style.specs.declared.builtin.Builtin.TheVariants.{While}
+use Rattle.bt_actions.specs.declared.code.Code.{Code as HeldCode}
 use Rattle.bt_actions.specs.declared.flow.Flow.{Flow}
 use Rattle.bt_actions.specs.declared.flow.Flow.TheVariants.{Go, Stop}
 use Rattle.bt_actions.specs.declared.tally.Tally.{Tally}
@@ -21,7 +22,7 @@ use Rattle.bt_machine.specs.declared.calls.Next.TheVariants as next
 use Rattle.bt_machine.specs.declared.control.Due.{Due}
 use Rattle.bt_machine.specs.declared.control.Due.TheVariants as due
 use Rattle.bt_machine.specs.declared.control.Frame.TheVariants as held
-use Rattle.bt_machine.specs.Eval.{Counts, Ending, Done, Stopped, then_go, code_body, turn, eval, act, looped}
+use Rattle.bt_machine.specs.Eval.{Counts, Ending, Done, Stopped, by_sign, then_go, code_body, turn, eval, act, looped}
 use Rattle.bt_machine.specs.inner.Cases.{checked}
 
 -- one thing that is left to do
@@ -75,6 +76,10 @@ is_above None = false
 is_above (Some (pos zero)) = false
 is_above (Some (pos (suc n))) = true
 is_above (Some (negsuc n)) = false
+
+-- of two functions the one that `if$` runs
+abbrev pub by_if : ℤ → HeldCode → HeldCode → Frame
+by_if n above other = Run (by_sign n (code_seen above) (code_seen other))
 
 -- what waits, the next first
 abbrev pub kept : List HeldFrame → List Frame

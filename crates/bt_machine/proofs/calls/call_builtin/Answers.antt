@@ -9,7 +9,7 @@ use Rattle.bt_machine.proofs.calls.call_builtin.Goals as goal
 
 pub returns-in_ok-flow-clause-leads : goal.returns-in_ok-flow-clause-leads
 returns-in_ok-flow-clause-leads c = λ k.
-    let p = program_of c.args.style.now in
+    let p = program_of c.args.context.style.now in
     let w = world_of c.args.state.now in
     c.next_after.ensures p c.args.control.now.items (world_of c.call_basic.new.state) k
     ∙ basic_leads c.in_ok-flow.flow (basic p c.args.builtin w) (built_in p (eval p) c.args.builtin w k) (world_of c.call_basic.new.state) k (left p (whole c.args.rest.now c.args.control.now.items)) c.in_ok-flow.ensures (c.is_basic.ensures c.if-is_basic.true p (eval p) w k)

@@ -1,4 +1,4 @@
-use Rattle.std.proofs.Common.{ap, sym, ◌∙◌, rules}
+use Rattle.std.proofs.Common.{ap, sym, ◌∙◌}
 use Rattle.bt_actions.specs.Item.{Block}
 use Rattle.bt_actions.specs.View.{code_seen}
 use Rattle.bt_style.specs.Tree.{ops_body}
@@ -12,5 +12,5 @@ pub returns-in_ok-body-in-Some-clause-leads : goal.returns-in_ok-body-in-Some-cl
 returns-in_ok-body-in-Some-clause-leads c = λ p.
     let all = c.in-Some in
     let did = c.in_ok-body-in-Some.ensures in
-    chosen_at_once p all.number _ c.is_above-first.result (Block (ops_body c.args.above.now)) (code_seen all.other) c.args.rest.now all.after.now c.in_ok-body-in-Some.body.now c.args.control.now.items c.choose_at_once.new.control.items (world_of c.args.state.now) (world_of c.choose_at_once.new.state) (counts c.args.tally.now) (counts c.choose_at_once.new.tally) all.ensures.number all.ensures.few did.ticks did.calls all.ensures.behind did.world c.is_above-first.ensures (search rules) did.same
+    chosen_at_once p all.choice.number (Block (ops_body c.args.above.now)) (code_seen all.choice.other) c.args.rest.now all.choice.after.now c.in_ok-body-in-Some.body.now c.args.control.now.items c.choose_at_once.new.control.items (world_of c.args.state.now) (world_of c.choose_at_once.new.state) (counts c.args.tally.now) (counts c.choose_at_once.new.tally) all.ensures.number all.ensures.few did.ticks did.calls all.ensures.behind did.world did.same
     ∙ ap (λ e. then_go (act p (eval p) e (world_of c.args.state.now) (counts c.args.tally.now)) (left p (whole c.args.rest.now c.args.control.now.items))) (sym c.requires)

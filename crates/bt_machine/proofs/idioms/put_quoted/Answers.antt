@@ -1,9 +1,7 @@
-use Rattle.std.proofs.Common.{ap, sym, ◌∙◌, rules}
 use Rattle.bt_actions.specs.Item.{Name}
 use Rattle.bt_actions.specs.View.{code_seen}
 use Rattle.bt_stack.specs.View.{world_of}
-use Rattle.bt_machine.specs.Eval.{then_go, act, eval}
-use Rattle.bt_machine.specs.inner.Loop.{counts, left, whole}
+use Rattle.bt_machine.specs.inner.Loop.{counts}
 use Rattle.bt_machine.proofs.IdiomLemmas.{chosen_at_once}
 use Rattle.bt_machine.proofs.idioms.put_quoted.Goals as goal
 
@@ -11,5 +9,4 @@ pub returns-in_ok-body-in-Some-clause-leads : goal.returns-in_ok-body-in-Some-cl
 returns-in_ok-body-in-Some-clause-leads c = λ p.
     let all = c.in-Some in
     let did = c.in_ok-body-in-Some.ensures in
-    chosen_at_once p all.number _ c.is_above-first.result (Name c.args.name) (code_seen all.other) c.args.rest.now all.after.now c.in_ok-body-in-Some.body.now c.args.control.now.items c.choose_at_once.new.control.items (world_of c.args.state.now) (world_of c.choose_at_once.new.state) (counts c.args.tally.now) (counts c.choose_at_once.new.tally) all.ensures.number all.ensures.few did.ticks did.calls all.ensures.behind did.world c.is_above-first.ensures (search rules) did.same
-    ∙ ap (λ e. then_go (act p (eval p) e (world_of c.args.state.now) (counts c.args.tally.now)) (left p (whole c.args.rest.now c.args.control.now.items))) (sym c.requires)
+    chosen_at_once p all.choice.number (Name c.args.name) (code_seen all.choice.other) c.args.rest.now all.choice.after.now c.in_ok-body-in-Some.body.now c.args.control.now.items c.choose_at_once.new.control.items (world_of c.args.state.now) (world_of c.choose_at_once.new.state) (counts c.args.tally.now) (counts c.choose_at_once.new.tally) all.ensures.number all.ensures.few did.ticks did.calls all.ensures.behind did.world did.same

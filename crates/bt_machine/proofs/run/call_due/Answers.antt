@@ -12,7 +12,7 @@ use Rattle.bt_machine.proofs.run.call_due.Goals as goal
 
 pub returns-then-tally-eq0-clause-leads : goal.returns-then-tally-eq0-clause-leads
 returns-then-tally-eq0-clause-leads c =
-    let p = program_of c.args.style.now in
+    let p = program_of c.args.context.style.now in
     let k = counts c.args.tally.now in
     let w = world_of c.args.state.now in
     let due = call_left c.args.name c.args.rest.now c.args.control.now.items in
@@ -20,7 +20,7 @@ returns-then-tally-eq0-clause-leads c =
 
 pub returns-in-Stop-clause-leads : goal.returns-in-Stop-clause-leads
 returns-in-Stop-clause-leads c =
-    let p = program_of c.args.style.now in
+    let p = program_of c.args.context.style.now in
     let k = counts c.args.tally.now in
     let w = world_of c.args.state.now in
     let rest = whole c.args.rest.now c.args.control.now.items in
@@ -32,7 +32,7 @@ returns-in-Stop-clause-leads c =
 
 pub returns-in-Body-clause-leads : goal.returns-in-Body-clause-leads
 returns-in-Body-clause-leads c =
-    let p = program_of c.args.style.now in
+    let p = program_of c.args.context.style.now in
     let k = counts c.args.tally.now in
     let w = world_of c.args.state.now in
     let rest = whole c.args.rest.now c.args.control.now.items in
@@ -44,7 +44,7 @@ returns-in-Body-clause-leads c =
 
 pub returns-then-is_skip-clause-leads : goal.returns-then-is_skip-clause-leads
 returns-then-is_skip-clause-leads c =
-    let p = program_of c.args.style.now in
+    let p = program_of c.args.context.style.now in
     let k = counts c.args.tally.now in
     let k1 = counts c.take.new.self in
     let w = world_of c.args.state.now in

@@ -18,23 +18,23 @@ pub work-init : goal.work-init
 work-init c =
     let f = held.Run (code.Name c.args.first) in
     let waits = kept_some c.push.new.self.items c.in_ok-control.control.items f c.in_ok-push.ensures.items ∙ ap (λ fs. Run (Name c.args.first) ∷ kept fs) c.in_ok-control.ensures.items in
-    starts (program_of c.args.style.now) c.args.first [] c.push.new.self.items (world_of c.args.state.now) (counts c.args.tally.now) refl waits
+    starts (program_of c.args.context.style.now) c.args.first [] c.push.new.self.items (world_of c.args.state.now) (counts c.args.tally.now) refl waits
 
 pub returns-in-Nothing : goal.returns-in-Nothing
 returns-in-Nothing c =
-    let p = program_of c.args.style.now in
+    let p = program_of c.args.context.style.now in
     let is_due = subst (λ d. IsDue d c.work.rest.now c.work.control.items c.next_due.new.control.items) c.in-Nothing.is c.next_due.ensures in
     sym (is_due p (world_of c.work.state) (counts c.work.tally)) ∙ c.work.invariant
 
 pub work-preserved-in-Body-next_due : goal.work-preserved-in-Body-next_due
 work-preserved-in-Body-next_due c =
-    let p = program_of c.args.style.now in
+    let p = program_of c.args.context.style.now in
     let is_due = subst (λ d. IsDue d c.work.rest.now c.work.control.items c.next_due.new.control.items) c.in-Body-next_due.is c.next_due.ensures in
     sym (is_due.0 p (world_of c.work.state) (counts c.work.tally)) ∙ c.work.invariant
 
 pub work-preserved-then-branch : goal.work-preserved-then-branch
 work-preserved-then-branch c =
-    let p = program_of c.args.style.now in
+    let p = program_of c.args.context.style.now in
     let end = eval p (Then (Called c.args.first) End) (world_of c.args.state.now) (counts c.args.tally.now) in
     let left_before = whole c.work.rest.now c.work.control.items in
     let left_now = whole c.work.rest.now c.next_due.new.control.items in
@@ -44,7 +44,7 @@ work-preserved-then-branch c =
 
 pub work-preserved-else-branch : goal.work-preserved-else-branch
 work-preserved-else-branch c =
-    let p = program_of c.args.style.now in
+    let p = program_of c.args.context.style.now in
     let end = eval p (Then (Called c.args.first) End) (world_of c.args.state.now) (counts c.args.tally.now) in
     let left_before = whole c.work.rest.now c.work.control.items in
     let left_now = whole c.work.rest.now c.next_due.new.control.items in
@@ -54,7 +54,7 @@ work-preserved-else-branch c =
 
 pub returns-then-tally-eq0 : goal.returns-then-tally-eq0
 returns-then-tally-eq0 c =
-    let p = program_of c.args.style.now in
+    let p = program_of c.args.context.style.now in
     let end = eval p (Then (Called c.args.first) End) (world_of c.args.state.now) (counts c.args.tally.now) in
     let left_before = whole c.work.rest.now c.work.control.items in
     let left_now = whole c.in-Some.after.now c.work.control.items in
@@ -64,7 +64,7 @@ returns-then-tally-eq0 c =
 
 pub returns-in-Stop : goal.returns-in-Stop
 returns-in-Stop c =
-    let p = program_of c.args.style.now in
+    let p = program_of c.args.context.style.now in
     let end = eval p (Then (Called c.args.first) End) (world_of c.args.state.now) (counts c.args.tally.now) in
     let left_before = whole c.work.rest.now c.work.control.items in
     let left_now = whole c.in-Some.after.now c.work.control.items in
@@ -77,7 +77,7 @@ returns-in-Stop c =
 
 pub work-preserved-in-Body : goal.work-preserved-in-Body
 work-preserved-in-Body c =
-    let p = program_of c.args.style.now in
+    let p = program_of c.args.context.style.now in
     let end = eval p (Then (Called c.args.first) End) (world_of c.args.state.now) (counts c.args.tally.now) in
     let left_before = whole c.work.rest.now c.work.control.items in
     let left_now = whole c.in-Some.after.now c.work.control.items in
@@ -90,14 +90,14 @@ work-preserved-in-Body c =
 
 pub work-preserved : goal.work-preserved
 work-preserved c =
-    let p = program_of c.args.style.now in
+    let p = program_of c.args.context.style.now in
     let is_due = subst (λ d. IsDue d c.work.rest.now c.work.control.items c.next_due.new.control.items) c.in-Name.is c.next_due.ensures in
     let goes = rw c.in-Some-next.is at c.in_ok-next-in-Name.ensures.leads in
     goes ∙ sym (is_due.0 p (world_of c.work.state) (counts c.work.tally)) ∙ c.work.invariant
 
 pub returns-in-None-next : goal.returns-in-None-next
 returns-in-None-next c =
-    let p = program_of c.args.style.now in
+    let p = program_of c.args.context.style.now in
     let is_due = subst (λ d. IsDue d c.work.rest.now c.work.control.items c.next_due.new.control.items) c.in-Name.is c.next_due.ensures in
     let stops = rw c.in-None-next.is at c.in_ok-next-in-Name.ensures.leads in
     stops ∙ sym (is_due.0 p (world_of c.work.state) (counts c.work.tally)) ∙ c.work.invariant

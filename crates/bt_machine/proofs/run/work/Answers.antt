@@ -8,4 +8,4 @@ use Rattle.bt_machine.proofs.run.work.Goals as goal
 pub returns : goal.returns
 returns c =
     c.in_ok-flow.ensures
-    ∙ ap (λ (k : Counts). eval (program_of c.args.style.now) (Then (Called c.args.first) End) (world_of c.args.state.now) k) (λ j. (c.new-tally.ensures.ticks j, c.new-tally.ensures.calls j))
+    ∙ ap (λ (k : Counts). eval (program_of c.args.context.style.now) (Then (Called c.args.first) End) (world_of c.args.state.now) k) (λ j. (c.new-tally.ensures.ticks j, c.new-tally.ensures.calls j))
