@@ -5,6 +5,8 @@ use Rattle.std.specs.List.{AllByRecursion, cons_option}
 use Rattle.std.proofs.lemmas.Bool.{leb-true, ltb-true}
 use Rattle.std.proofs.lemmas.Bool.Decides.{Decides-eqb}
 use Rattle.std.proofs.lemmas.List.{get_or-set_same, get_or-set_other, get_or_past, set_past, drop_more, drop-drop}
+use Rattle.std.proofs.lemmas.Bool.{cases_lt}
+use Rattle.std.proofs.lemmas.Option.{slice_get-map}
 use Rattle.bt_resolve.specs.declared.asked.Asked.{Asked}
 use Rattle.bt_resolve.specs.declared.entry.Entry.{Entry}
 use Rattle.bt_resolve.specs.declared.stored.Stored.{Stored}
@@ -18,9 +20,10 @@ use Rattle.bt_resolve.specs.Resolved.{stored_entries}
 use Rattle.bt_resolve.specs.declared.declared.Macro.{Macro}
 use Rattle.bt_resolve.specs.Edited.{Edit, databases_before, databases_after, items_before, stored_by, stored_first, stored_last}
 use Rattle.bt_resolve.proofs.EditedLemmas.{edit_is_patched}
-use Rattle.bt_resolve.proofs.HeirLemmas.{heirs_alone, lt_or_le, seen_as_shown, shown_seen, span_differs}
+use Rattle.bt_resolve.proofs.HeirLemmas.{first_some, heirs_alone, seen_as_shown, shown_seen, span_differs}
 use Rattle.bt_resolve.proofs.InheritingLemmas.{behind_place, values_are}
-use Rattle.bt_resolve.proofs.SkeletonLemmas.{get_map, one_list, same_parent}
+use Rattle.bt_resolve.proofs.SkeletonLemmas.{one_list, same_parent}
+use Rattle.bt_resolve.proofs.ListLemmas.{same_some}
 
 abbrev Values : Type 0
 Values = List (Option (List ℕ))
@@ -36,7 +39,7 @@ marked_by marks p (inl less) = get_or-set_same marks p true true less
 marked_by marks p (inr past) = ap (λ (ms : List Bool). get_or ms p true) (set_past marks p true past) ∙ get_or_past marks p true past
 
 pub is_set : (marks : List Bool) (p : ℕ) → is_marked (slice_set marks p true) p ≡ true
-is_set marks p = marked_by marks p (lt_or_le p (length marks))
+is_set marks p = marked_by marks p (cases_lt p (length marks))
 
 neither : (b c : Bool) → b ≡ false → c ≡ false → (b || c) ≡ false
 neither true c is more = is
@@ -97,10 +100,6 @@ inherit_alike stored others alike (p ∷ ps) values =
     ∙ inherit_alike stored others alike ps (inherits_at others values p)
 
 -- ---- entries, made anew or the old ones
-
-first_some : (o : Option Entry) (es : List Entry) → is_some o ≡ true → (slice_get (cons_option o es) 0 ≡ o) × (drop 1 (cons_option o es) ≡ es)
-first_some None es h = absurd cc
-first_some (Some e) es h = (refl, refl)
 
 made_is : (marked : Bool) (made was is old : Option Entry) → made ≡ is → (marked ≡ false → was ≡ is) → old ≡ was → made_if marked made old ≡ is
 made_is true made was is old new same old_is = new
@@ -222,10 +221,6 @@ seen_list : (a : Asked) (min : ℕ) (stored : List Stored) → entries_seen a mi
 unfolding entries_seen
 seen_list a min stored = refl
 
-abbrev true_of : Option Bool → Bool
-true_of None = false
-true_of (Some b) = b
-
 unmarked_of : (b : Bool) → not b ≡ true → b ≡ false
 unmarked_of true is = let wrong : false ≡ true = is in cc
 unmarked_of false is = refl
@@ -234,11 +229,11 @@ unmarked_of false is = refl
 stays_at : (marks : List Bool) (places : List ℕ) (k : ℕ) (o : Option ℕ) → slice_get places k ≡ o → slice_get (stays_among marks places) k ≡ Some true → (p : ℕ) × (o ≡ Some p) × (is_marked marks p ≡ false)
 stays_at marks places k None at stays =
     let none : Option Bool = None in
-    let wrong : none ≡ Some true = sym (ap (option_map (λ (p : ℕ). not (is_marked marks p))) at) ∙ sym (get_map (λ (p : ℕ). not (is_marked marks p)) places k) ∙ stays in
+    let wrong : none ≡ Some true = sym (ap (option_map (λ (p : ℕ). not (is_marked marks p))) at) ∙ sym (slice_get-map (λ (p : ℕ). not (is_marked marks p)) places k) ∙ stays in
     cc
 stays_at marks places k (Some p) at stays =
-    let same : Some (not (is_marked marks p)) ≡ Some true = sym (ap (option_map (λ (p : ℕ). not (is_marked marks p))) at) ∙ sym (get_map (λ (p : ℕ). not (is_marked marks p)) places k) ∙ stays in
-    (p, refl, unmarked_of (is_marked marks p) (ap true_of same))
+    let same : Some (not (is_marked marks p)) ≡ Some true = sym (ap (option_map (λ (p : ℕ). not (is_marked marks p))) at) ∙ sym (slice_get-map (λ (p : ℕ). not (is_marked marks p)) places k) ∙ stays in
+    (p, refl, unmarked_of (is_marked marks p) (same_some (not (is_marked marks p)) true same))
 
 module _ (a : Asked) (min place : ℕ) (own : Values) (store stored others : List Stored) (values : List Values) (list places : List ℕ) (entries : List Entry) (like : AreAlike store stored) (one : OnePatched place own stored others)
     (values_is : values ≡ values_read stored) (list_is : list ≡ listed a stored) (places_is : places ≡ shown a min stored) (entries_is : entries ≡ entries_seen a min stored) where

@@ -1,9 +1,10 @@
 -- What an edit of values may change of what is seen.
-use Rattle.std.proofs.Common.{◌≡◌, ◌∙◌, ap, sym, refl, append_assoc, ℕ, zero, suc, ◌+◌, ◌-◌, ◌<◌, ◌≤◌, Bool, true, false, List, [], ◌∷◌, ◌++◌, length, reverse, Option, Some, None, arith, inl, inr, ◌⊎◌}
+use Rattle.std.proofs.Common.{◌≡◌, ◌∙◌, ap, sym, refl, append_assoc, ℕ, zero, suc, ◌+◌, ◌-◌, ◌<◌, ◌≤◌, Bool, true, false, List, [], ◌∷◌, ◌++◌, length, drop, reverse, Option, Some, None, arith, inl, inr, ◌⊎◌}
 use Rattle.std.specs.Prelude.{◌==◌, ◌||◌, not, cond, slice_get, filter, filter_map, is_some, option_map, option_and_then}
 use Rattle.std.specs.List.{AllByRecursion, cons_option}
 use Rattle.std.proofs.lemmas.Bool.Decides.{Decides-eqb, nat_tests}
 use Rattle.std.proofs.lemmas.List.{length-map}
+use Rattle.std.proofs.lemmas.Bool.{cases_lt}
 use Rattle.bt_resolve.specs.declared.asked.Asked.{Asked}
 use Rattle.bt_resolve.specs.declared.stored.Stored.{Stored}
 use Rattle.bt_resolve.specs.declared.entry.Entry.{Entry}
@@ -82,9 +83,9 @@ some_shown : (f : ℕ → Option Entry) (n : ℕ) (test : ℕ → Bool) (ps : Li
 some_shown f n test [] is h = tt
 some_shown f n test (p ∷ ps) is h = all_kept (λ q. is_some (f q) ≡ true) (test p) p (filter test ps) (is p h.0) (some_shown f n test ps is h.1)
 
-first_some : (o : Option Entry) (es : List Entry) → is_some o ≡ true → slice_get (cons_option o es) zero ≡ o
+pub first_some : (o : Option Entry) (es : List Entry) → is_some o ≡ true → (slice_get (cons_option o es) 0 ≡ o) × (drop 1 (cons_option o es) ≡ es)
 first_some None es h = absurd cc
-first_some (Some e) es h = refl
+first_some (Some e) es h = (refl, refl)
 
 next_some : (o : Option Entry) (es : List Entry) (k : ℕ) → is_some o ≡ true → slice_get (cons_option o es) (suc k) ≡ slice_get es k
 next_some None es k h = absurd cc
@@ -92,7 +93,7 @@ next_some (Some e) es k h = refl
 
 get_shown : (f : ℕ → Option Entry) (ps : List ℕ) → AllByRecursion (λ p. is_some (f p) ≡ true) ps → (k : ℕ) → slice_get (filter_map f ps) k ≡ option_and_then f (slice_get ps k)
 get_shown f [] h k = refl
-get_shown f (p ∷ ps) h zero = first_some (f p) (filter_map f ps) h.0
+get_shown f (p ∷ ps) h zero = (first_some (f p) (filter_map f ps) h.0).0
 get_shown f (p ∷ ps) h (suc k) = next_some (f p) (filter_map f ps) k h.0 ∙ get_shown f ps h.1 k
 
 pub shown_seen : (a : Asked) (min : ℕ) (stored : List Stored) → AllByRecursion (λ p. is_some (seen_at a min stored p) ≡ true) (shown a min stored)
@@ -117,11 +118,6 @@ get_behind [] ys p k is = ap (slice_get ys) (omega (arith, is))
 get_behind (x ∷ xs) ys zero k is = absurd (omega (arith, is))
 get_behind (x ∷ xs) ys (suc p) k is = get_behind xs ys p k (omega (arith, is))
 
-pub lt_or_le : (k n : ℕ) → (k < n) ⊎ (n ≤ k)
-lt_or_le k zero = inr (omega arith)
-lt_or_le zero (suc n) = inl (omega arith)
-lt_or_le (suc k) (suc n) = elim (lt_or_le k n) [ inl less ↦ inl (omega arith) | inr more ↦ inr (omega arith) ]
-
 within_is : (begin count p : ℕ) → begin ≤ p → p < begin + count → is_within begin count p ≡ true
 within_is begin count p h k = grind (arith, nat_tests)
 
@@ -130,10 +126,10 @@ alike_length mine theirs alike = sym (length-map mine skeleton) ∙ ap length al
 
 outside_span : (front mine theirs rest : List Stored) → length mine ≡ length theirs → (p : ℕ) → is_within (length front) (length mine) p ≡ false → slice_get (front ++ (mine ++ rest)) p ≡ slice_get (front ++ (theirs ++ rest)) p
 outside_span front mine theirs rest same p out =
-    elim (lt_or_le p (length front)) [
+    elim (cases_lt p (length front)) [
       | inl before ↦ get_front front (mine ++ rest) p before ∙ sym (get_front front (theirs ++ rest) p before)
       | inr past ↦
-          elim (lt_or_le p (length front + length mine)) [
+          elim (cases_lt p (length front + length mine)) [
             | inl inside ↦ (let wrong : true ≡ false = sym (within_is (length front) (length mine) p past inside) ∙ out in absurd cc)
             | inr behind ↦
                 get_behind front (mine ++ rest) p (p - length front) (omega arith)

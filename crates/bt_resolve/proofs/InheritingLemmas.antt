@@ -1,10 +1,11 @@
 -- Inheriting one after another yields the values that the definitions give by place in the list.
-use Rattle.std.proofs.Common.{◌≡◌, ◌≢◌, ◌∙◌, ap, sym, refl, ℕ, zero, suc, ◌<◌, ◌≤◌, Bool, true, false, List, [], ◌∷◌, ◌++◌, length, reverse, get_or, set, Option, Some, None, append_assoc, append-nil, arith, inl, inr, ◌⊎◌}
+use Rattle.std.proofs.Common.{◌≡◌, ◌≢◌, ◌∙◌, ap, sym, refl, ℕ, zero, suc, ◌<◌, ◌≤◌, Bool, true, false, List, [], ◌∷◌, ◌++◌, length, reverse, get_or, set, Option, Some, None, append_assoc, append-nil, inl, inr, ◌⊎◌}
 use Rattle.std.specs.Prelude.{◌==◌, slice_get}
 use Rattle.std.proofs.Math.Path.{fun_ext}
 use Rattle.std.proofs.lemmas.Grind.{reverse_onto}
 use Rattle.std.proofs.lemmas.List.{get_or-set_same, get_or-set_other, get_or_past, set_past}
 use Rattle.std.proofs.lemmas.Bool.Decides.{Decides-eqb}
+use Rattle.std.proofs.lemmas.Bool.{cases_lt}
 use Rattle.bt_resolve.specs.declared.asked.Asked.{Asked}
 use Rattle.bt_resolve.specs.declared.stored.Stored.{Stored}
 use Rattle.bt_resolve.specs.Listed.{listed}
@@ -25,14 +26,9 @@ set_at_length vs k theirs (inr past) =
     ∙ get_or_past vs k [] past
     ∙ sym (ap (λ (v : Values). inherited v theirs) (get_or_past vs k [] past))
 
-lt_or_le : (k n : ℕ) → (k < n) ⊎ (n ≤ k)
-lt_or_le k zero = inr (omega arith)
-lt_or_le zero (suc n) = inl (omega arith)
-lt_or_le (suc k) (suc n) = elim (lt_or_le k n) [ inl less ↦ inl (omega arith) | inr more ↦ inr (omega arith) ]
-
 same_place : (vs : List Values) (k : ℕ) (parent : Option ℕ) → get_or (inherits_from parent k vs) k [] ≡ inherits true parent (λ j. get_or vs j []) k
 same_place vs k None = refl
-same_place vs k (Some parent) = set_at_length vs k (get_or vs parent []) (lt_or_le k (length vs))
+same_place vs k (Some parent) = set_at_length vs k (get_or vs parent []) (cases_lt k (length vs))
 
 pub other_place : (vs : List Values) (q k : ℕ) (parent : Option ℕ) → k ≢ q → get_or (inherits_from parent q vs) k [] ≡ get_or vs k []
 other_place vs q k None other = refl

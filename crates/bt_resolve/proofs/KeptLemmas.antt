@@ -34,12 +34,12 @@ use Rattle.bt_resolve.specs.Skeletons.{skeleton, AreAlike, AreInPlace, shown}
 use Rattle.bt_resolve.specs.Listed.{listed}
 use Rattle.bt_resolve.specs.inner.Inheritance.{values_read}
 use Rattle.bt_resolve.specs.inner.Databases.{DefineNothing, State, after_items, after_databases, nothing_read, resolved_of}
-use Rattle.bt_resolve.specs.inner.Kept.{AreAhead, AreKept, IsAround, IsEditOf, IsFound, IsNewSpan, IsPlace, IsResolvedEdit, IsSeenEdit, IsShort, IsSpanEdit, IsSpared, IsWithin, asked_by, items_in, macros_ahead, macros_behind, mark_of, new_values, other_entries, reaches_for, replaced, resolved_for, stored_for, with_database, with_own, with_seen}
+use Rattle.bt_resolve.specs.inner.Kept.{AreBefore, AreKept, IsAround, IsEditOf, IsFound, IsNewSpan, IsPlace, IsResolvedEdit, IsSeenEdit, IsShort, IsSpanEdit, IsSpared, IsWithin, asked_by, items_in, macros_before, macros_behind, mark_of, new_values, other_entries, reaches_for, replaced, resolved_for, stored_for, with_database, with_own, with_seen}
 use Rattle.bt_resolve.specs.inner.Patches.{patched}
 use Rattle.bt_resolve.specs.Values.{MacroTexts}
 use Rattle.bt_resolve.specs.inner.Reaches.{database_reaches}
 use Rattle.bt_resolve.specs.inner.Spans.{span_of}
-use Rattle.bt_resolve.proofs.AheadLemmas.{macros_kept}
+use Rattle.bt_resolve.proofs.BeforeLemmas.{macros_kept}
 use Rattle.bt_resolve.proofs.EditedLemmas.{edit_is_patched}
 use Rattle.bt_resolve.proofs.HeirEditLemmas.{OnePatched, entries_now as others_now, entry_patched, nothing_patched, stays_now}
 use Rattle.bt_resolve.proofs.ItemsEditLemmas.{in_three}
@@ -49,6 +49,7 @@ use Rattle.bt_resolve.proofs.PatchLemmas.{messages_patched}
 use Rattle.bt_resolve.proofs.PlacingLemmas.{all_add, resolved_is, stored_is}
 use Rattle.bt_resolve.proofs.ReachLemmas.{GoOn, AllGoOn, itself_beside, macros_beside, stored_beside, pieces_moved, pieces_same, go_on_both, span_beside, one_database}
 use Rattle.bt_resolve.proofs.SkeletonLemmas.{one_list}
+use Rattle.bt_resolve.proofs.ListLemmas.{same_some}
 
 -- ---- what the style sees
 
@@ -269,50 +270,41 @@ module _ (q : Question) (number : ℕ) (items old : List PlacedPiece) (e : Items
 
 -- ---- for the code
 
-abbrev database_or : List PlacedPiece → Option (List PlacedPiece) → List PlacedPiece
-database_or d o = elim o [ None ↦ d | Some x ↦ x ]
-
--- the database that is read at an index
-pub got_pieces : (ds qs : List (List PlacedPiece)) (number : ℕ) (x p : List PlacedPiece) → ds ≡ qs → number < length ds → x ≡ get_or ds number x → p ≡ x → slice_get qs number ≡ Some p
-got_pieces ds qs number x p same less is p_is =
-    ap (λ (l : List (List PlacedPiece)). slice_get l number) (sym same)
+-- what is read at an index
+pub got_at : {X : Type 0} (ds qs : List X) (number : ℕ) (x p : X) → ds ≡ qs → number < length ds → x ≡ get_or ds number x → p ≡ x → slice_get qs number ≡ Some p
+got_at {X = X} ds qs number x p same less is p_is =
+    ap (λ (l : List X). slice_get l number) (sym same)
     ∙ slice_get_read ds (length ds) number x refl less is
-    ∙ ap (λ (y : List PlacedPiece). Some y) (sym p_is)
+    ∙ ap (λ (y : X). Some y) (sym p_is)
 
 -- its edit
 pub edit_there : (q : Question) (number : ℕ) (items : List PlacedPiece) (e : ItemsEdit) (old : List PlacedPiece) → IsEditOf q number items e → slice_get q.databases number ≡ Some old → IsItemsEdit old items e
-edit_there q number items e old of here = subst (λ (ps : List PlacedPiece). IsItemsEdit ps items e) (ap (database_or old) (sym of.here ∙ here)) of.edit
+edit_there q number items e old of here = subst (λ (ps : List PlacedPiece). IsItemsEdit ps items e) (same_some of.old old (sym of.here ∙ here)) of.edit
 
 -- what `Resolution::edit` found gives what it promises
 edited : (q : Question) (number : ℕ) (items : List PlacedPiece) (e : ItemsEdit) (f : Found) (old : List PlacedPiece) (a : Asked) (rs : List Reach) (r : Around) (known : MacroTexts) (span : Span) (made : Option ResolvedEdit) → IsEditOf q number items e → IsFound q f →
-    slice_get q.databases number ≡ Some old → slice_get f.reaches number ≡ Some rs → a ≡ asked_by q → IsShort old e → IsAround rs e.before e.upto r → known ≡ macros_ahead q number e.before old → IsNewSpan a known number e r span →
+    slice_get q.databases number ≡ Some old → slice_get f.reaches number ≡ Some rs → a ≡ asked_by q → IsShort old e → IsAround rs e.before e.upto r → known ≡ macros_before q number e.before old → IsNewSpan a known number e r span →
     IfSome made (λ m. IsSpanEdit a q.min f span e r m) → IfSome made (λ m. IsResolvedEdit q number items m)
 edited q number items e f old a rs r known span None of found here rs_is a_is short around known_is new by = tt
 edited q number items e f old a rs r known span (Some made) of found here rs_is a_is short around known_is new by =
     edit_is_resolved q number items old e here (edit_there q number items e old of here) short f found rs rs_is r around known known_is span (subst (λ (b : Asked). IsNewSpan b known number e r span) a_is new) made (subst (λ (b : Asked). IsSpanEdit b q.min f span e r made) a_is by)
 
-got_reaches : (all others : List (List Reach)) (number : ℕ) (x rs : List Reach) → all ≡ others → number < length all → x ≡ get_or all number x → rs ≡ x → slice_get others number ≡ Some rs
-got_reaches all others number x rs same less is rs_is =
-    ap (λ (l : List (List Reach)). slice_get l number) (sym same)
-    ∙ slice_get_read all (length all) number x refl less is
-    ∙ ap (λ (y : List Reach). Some y) (sym rs_is)
-
 -- the same, by what the code has in hand
 pub edited_there : (q now : Question) (number : ℕ) (items : List PlacedPiece) (e : ItemsEdit) (f : Found) (ds : List (List PlacedPiece)) (x old : List PlacedPiece) (all : List (List Reach)) (y rs : List Reach) (a : Asked) (r : Around) (known : MacroTexts) (span : Span) (made : Option ResolvedEdit) → IsEditOf now number items e → q ≡ now → IsFound q f →
     ds ≡ q.databases → number < length ds → x ≡ get_or ds number x → old ≡ x → all ≡ f.reaches → number < length all → y ≡ get_or all number y → rs ≡ y → a ≡ asked_by q →
-    IsShort old e → IsAround rs e.before e.upto r → AreAhead now number e.before known → IsNewSpan a known number e r span →
+    IsShort old e → IsAround rs e.before e.upto r → AreBefore now number e.before known → IsNewSpan a known number e r span →
     IfSome made (λ m. IsSpanEdit a q.min f span e r m) → IfSome made (λ m. IsResolvedEdit now number items m)
 edited_there q now number items e f ds x old all y rs a r known span made of same found ds_is less x_is old_is all_is less_all y_is rs_is a_is short around known_is new by =
-    let here : slice_get q.databases number ≡ Some old = got_pieces ds q.databases number x old ds_is less x_is old_is in
-    let ahead : known ≡ macros_ahead q number e.before old = subst (λ (k : Question). AreAhead k number e.before known) (sym same) known_is old here in
+    let here : slice_get q.databases number ≡ Some old = got_at ds q.databases number x old ds_is less x_is old_is in
+    let ahead : known ≡ macros_before q number e.before old = subst (λ (k : Question). AreBefore k number e.before known) (sym same) known_is old here in
     subst (λ (k : Question). IfSome made (λ m. IsResolvedEdit k number items m)) same
-    (edited q number items e f old a rs r known span made (subst (λ (k : Question). IsEditOf k number items e) (sym same) of) found here (got_reaches all f.reaches number y rs all_is less_all y_is rs_is) a_is short around ahead new by)
+    (edited q number items e f old a rs r known span made (subst (λ (k : Question). IsEditOf k number items e) (sym same) of) found here (got_at all f.reaches number y rs all_is less_all y_is rs_is) a_is short around ahead new by)
 
 -- the edit's numbers fit the pieces that are read
 pub edit_fits : (q now : Question) (number : ℕ) (items : List PlacedPiece) (e : ItemsEdit) (ds : List (List PlacedPiece)) (x old : List PlacedPiece) → IsEditOf now number items e → q ≡ now → ds ≡ q.databases → number < length ds → x ≡ get_or ds number x → old ≡ x →
     (e.before ≤ e.upto) × (e.upto ≤ length old)
 edit_fits q now number items e ds x old of same ds_is less x_is old_is =
-    let is = edit_there now number items e old of (got_pieces ds now.databases number x old (ds_is ∙ ap (λ (k : Question). k.databases) same) less x_is old_is) in
+    let is = edit_there now number items e old of (got_at ds now.databases number x old (ds_is ∙ ap (λ (k : Question). k.databases) same) less x_is old_is) in
     (is.order, is.inside)
 
 -- what the code finds at a place among the pieces of a database
@@ -321,23 +313,23 @@ pub place_is : (q now : Question) (number before : ℕ) (ds : List (List PlacedP
 place_is q now number before ds x p place same ds_is x_is p_is =
     let there : ds ≡ now.databases = ds_is ∙ ap (λ (k : Question). k.databases) same in
     let less = subst (λ (l : List (List PlacedPiece)). number < length l) (sym there) (slice_get_within now.databases number place.pieces place.here) in
-    let here = got_pieces ds now.databases number x p there less x_is p_is in
-    (here, omega (arith, less), subst (λ (ps : List PlacedPiece). before ≤ length ps) (ap (database_or p) (sym place.here ∙ here)) place.inside)
+    let here = got_at ds now.databases number x p there less x_is p_is in
+    (here, omega (arith, less), subst (λ (ps : List PlacedPiece). before ≤ length ps) (same_some place.pieces p (sym place.here ∙ here)) place.inside)
 
 -- the macros there, if no string follows
-pub ahead_kept : (q now : Question) (number before : ℕ) (ds : List (List PlacedPiece)) (p : List PlacedPiece) (known : MacroTexts) → q ≡ now → ds ≡ q.databases → slice_get now.databases number ≡ Some p → known ≡ macros_behind q →
-    DefineNothing (items_of (take (length p - before) (drop before p))) → DefineNothing (all_items (map items_of (take (length ds - (number + 1)) (drop (number + 1) ds)))) → AreAhead now number before known
-ahead_kept q now number before ds p known same ds_is here known_is none later ps there =
-    let one : p ≡ ps = ap (database_or ps) (sym here ∙ there) in
+pub before_kept : (q now : Question) (number before : ℕ) (ds : List (List PlacedPiece)) (p : List PlacedPiece) (known : MacroTexts) → q ≡ now → ds ≡ q.databases → slice_get now.databases number ≡ Some p → known ≡ macros_behind q →
+    DefineNothing (items_of (take (length p - before) (drop before p))) → DefineNothing (all_items (map items_of (take (length ds - (number + 1)) (drop (number + 1) ds)))) → AreBefore now number before known
+before_kept q now number before ds p known same ds_is here known_is none later ps there =
+    let one : p ≡ ps = same_some p ps (sym here ∙ there) in
     let rest = subst (λ (l : List PlacedPiece). DefineNothing (items_of l)) (take_rest p before ∙ ap (drop before) one) none in
     let behind = subst (λ (l : List (List PlacedPiece)). DefineNothing (all_items (map items_of l))) (take_rest ds (number + 1) ∙ ap (drop (number + 1)) (ds_is ∙ ap (λ (k : Question). k.databases) same)) later in
     known_is ∙ ap macros_behind same ∙ macros_kept now.declared.macros now.databases number before ps there rest behind
 
 -- the macros there, as they are defined again
-pub ahead_made : (q now : Question) (number before : ℕ) (ds : List (List PlacedPiece)) (p : List PlacedPiece) (style : List Macro) (known : MacroTexts) → q ≡ now → ds ≡ q.databases → slice_get now.databases number ≡ Some p → style ≡ q.declared.macros →
-    known ≡ macro_before style (reverse (items_of (take before p)) ++ reverse (all_items (map items_of (take number ds)))) → AreAhead now number before known
-ahead_made q now number before ds p style known same ds_is here style_is known_is ps there =
-    let one : p ≡ ps = ap (database_or ps) (sym here ∙ there) in
+pub before_made : (q now : Question) (number before : ℕ) (ds : List (List PlacedPiece)) (p : List PlacedPiece) (style : List Macro) (known : MacroTexts) → q ≡ now → ds ≡ q.databases → slice_get now.databases number ≡ Some p → style ≡ q.declared.macros →
+    known ≡ macro_before style (reverse (items_of (take before p)) ++ reverse (all_items (map items_of (take number ds)))) → AreBefore now number before known
+before_made q now number before ds p style known same ds_is here style_is known_is ps there =
+    let one : p ≡ ps = same_some p ps (sym here ∙ there) in
     known_is ∙ (λ j. macro_before ((style_is ∙ ap (λ (k : Question). k.declared.macros) same) j)
     (reverse (items_of (take before (one j))) ++ reverse (all_items (map items_of (take number ((ds_is ∙ ap (λ (k : Question). k.databases) same) j))))))
 

@@ -1,7 +1,7 @@
 -- The parts of an edit of one database, and how far the reading is at their ends.
 use Rattle.std.proofs.Common.{◌≡◌, ◌∙◌, ap, sym, refl, ℕ, zero, suc, ◌+◌, ◌-◌, ◌≤◌, List, [], ◌∷◌, ◌++◌, length, length-append, map, take, drop, reverse, Option, Some, None, arith}
 use Rattle.std.specs.Prelude.{nat_lt, slice_get, slice_set}
-use Rattle.std.proofs.lemmas.List.{length-map, length-take-le, map-append, take_all}
+use Rattle.std.proofs.lemmas.List.{length-map, length-take-le, map-append, set_split, take_all}
 use Rattle.std.proofs.lemmas.Option.{slice_get_within}
 use Rattle.std.proofs.Math.Seq.{take-add}
 use Rattle.bt_bib.specs.Items.{PlacedItem, items_of}
@@ -30,33 +30,24 @@ use Rattle.bt_resolve.proofs.MovedItemLemmas.{moved_the_same}
 use Rattle.bt_resolve.proofs.PlacingLemmas.{StandsBehind, all_add, items_add}
 use Rattle.bt_resolve.proofs.ReachLemmas.{after_both, after_pieces, reach_count, reach_at, reaches_at}
 use Rattle.bt_resolve.proofs.SpanLemmas.{stored_in_parts}
+use Rattle.bt_resolve.proofs.ListLemmas.{same_some}
 
 -- ---- one database among others
 
-abbrev piece_or : List PlacedPiece → Option (List PlacedPiece) → List PlacedPiece
-piece_or d None = d
-piece_or d (Some e) = e
-
 pub parts_of : (ds : List (List PlacedPiece)) (k : ℕ) (d : List PlacedPiece) → slice_get ds k ≡ Some d → ds ≡ take k ds ++ d ∷ drop (suc k) ds
 parts_of [] k d is = let none : Option (List PlacedPiece) = None in let wrong : none ≡ Some d = is in cc
-parts_of (x ∷ ds) zero d is = λ j. ap (piece_or x) is j ∷ ds
+parts_of (x ∷ ds) zero d is = λ j. same_some x d is j ∷ ds
 parts_of (x ∷ ds) (suc k) d is = ap (λ (es : List (List PlacedPiece)). x ∷ es) (parts_of ds k d is)
 
 pub set_parts : (ds : List (List PlacedPiece)) (k : ℕ) (d e : List PlacedPiece) → slice_get ds k ≡ Some d → slice_set ds k e ≡ take k ds ++ e ∷ drop (suc k) ds
-set_parts [] k d e is = let none : Option (List PlacedPiece) = None in let wrong : none ≡ Some d = is in cc
-set_parts (x ∷ ds) zero d e is = refl
-set_parts (x ∷ ds) (suc k) d e is = ap (λ (es : List (List PlacedPiece)). x ∷ es) (set_parts ds k d e is)
+set_parts ds k d e is = set_split ds k e (slice_get_within ds k d is)
 
 stored_front : (a : Asked) (ms : List Macro) (ds : List (List PlacedItem)) → stored_among a ms (reverse (all_items ds)) ≡ for_each (added_at a ms) [] (all_items ds)
 unfolding stored_entries
 stored_front a ms ds = stored_each a ms ds
 
-abbrev reach_or : Reach → Option Reach → Reach
-reach_or d None = d
-reach_or d (Some r) = r
-
 same_reach : (r s : Reach) (o : Option Reach) → o ≡ Some r → o ≡ Some s → r ≡ s
-same_reach r s o is_r is_s = ap (reach_or r) (sym is_r ∙ is_s)
+same_reach r s o is_r is_s = same_some r s (sym is_r ∙ is_s)
 
 module _ (q : Question) (number : ℕ) (items old : List PlacedPiece) (e : ItemsEdit) (here : slice_get q.databases number ≡ Some old) (is : IsItemsEdit old items e) where
   abbrev pub ask : Asked
@@ -152,13 +143,9 @@ module _ (q : Question) (number : ℕ) (items old : List PlacedPiece) (e : Items
   -- ---- what is kept of it
 
   module _ (rs : List Reach) (r : Around) (rs_is : slice_get (reaches_for q) number ≡ Some rs) (around : IsAround rs e.before e.upto r) where
-    abbrev reach_list_or : List Reach → Option (List Reach) → List Reach
-    reach_list_or d None = d
-    reach_list_or d (Some x) = x
-
     reaches_are : rs ≡ reaches ask (number_of edit) at_start old
     reaches_are =
-        ap (reach_list_or rs) (sym rs_is ∙ reaches_at ask 1 (nothing_read macros) q.databases number old here)
+        same_some rs _ (sym rs_is ∙ reaches_at ask 1 (nothing_read macros) q.databases number old here)
         ∙ ap (λ (n : ℕ). reaches ask n at_start old) number_is
 
     read_to : (k : ℕ) → k ≤ length old → slice_get rs k ≡ Some (reach (after_items ask (number_of edit) at_start (items_of (take k old))))

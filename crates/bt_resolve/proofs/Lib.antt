@@ -1,7 +1,6 @@
 pub mod NameLemmas
 pub mod FieldLemmas
 pub mod StoreLemmas
-pub mod FamilyLemmas
 pub mod ListLemmas
 pub mod InheritingLemmas
 pub mod PlacingLemmas
@@ -20,7 +19,7 @@ pub mod ReadingLemmas
 pub mod ReachLemmas
 pub mod MarkLemmas
 pub mod PatchLemmas
-pub mod AheadLemmas
+pub mod BeforeLemmas
 pub mod KeptParts
 pub mod KeptLemmas
 pub mod PartLemmas

@@ -1,16 +1,14 @@
 -- Steps of the loops over places.
-use Rattle.std.proofs.Common.{◌≡◌, ◌∙◌, ap, sym, refl, ℕ, ◌+◌, ◌<◌, List, [], ◌∷◌, ◌++◌, length, take, get_or, map, append_assoc, append-nil, Bool, true, false, Option}
-use Rattle.std.specs.Prelude.{◌==◌, ◌||◌, filter_map, cond, if◌then◌else◌}
-use Rattle.std.specs.List.{cons_option}
+use Rattle.std.proofs.Common.{◌≡◌, ◌∙◌, ap, sym, refl, ℕ, ◌+◌, ◌<◌, List, [], ◌∷◌, ◌++◌, length, take, get_or, append_assoc, append-nil, Bool, true, false, Option, Some}
+use Rattle.std.specs.Prelude.{◌==◌, ◌||◌, cond, unwrap_or, if◌then◌else◌}
 use Rattle.std.proofs.lemmas.Bool.Decides.{Decides-eqb}
 use Rattle.std.proofs.lemmas.List.{take_more}
 use Rattle.std.proofs.lemmas.List.Folds.{list_any-append}
 use Rattle.bt_resolve.specs.Listed.{firsts, is_among}
 
--- the places that are present, of optional ones
-pub filter_map-map : {X : Type 0} (f : X → Option ℕ) (xs : List X) → filter_map (λ (o : Option ℕ). o) (map f xs) ≡ filter_map f xs
-filter_map-map f [] = refl
-filter_map-map f (x ∷ xs) = ap (λ (ps : List ℕ). cons_option (f x) ps) (filter_map-map f xs)
+-- what is in two equal options
+pub same_some : {X : Type 0} (x y : X) → (let one : Option X = Some x in one ≡ Some y) → x ≡ y
+same_some {X = X} x y is = ap (λ (o : Option X). unwrap_or o x) is
 
 or_last : (a b : Bool) → cond a true b ≡ b || (a || false)
 or_last true true = refl

@@ -26,8 +26,8 @@ use Rattle.bt_resolve.specs.Warnings.{line_at}
 use Rattle.bt_resolve.specs.inner.Cases.{origin_of, with_entry, with_item, key_messages, string_messages, preamble_messages, fault_messages, messages_at}
 use Rattle.bt_resolve.specs.Faults.{repeated}
 use Rattle.bt_resolve.specs.Messages.{stored_messages, item_messages, for_each}
-use Rattle.bt_resolve.specs.inner.Spans.{tells, stored_if, told_if, nothing, with_item_by, is_entry_item, span_of, tells_of}
-use Rattle.bt_resolve.specs.Skeletons.{AreAlike, IsLike, AreInPlace, entry_added, added, added_at}
+use Rattle.bt_resolve.specs.inner.Spans.{tells, stored_if, told_if, nothing, with_item_by, span_of, tells_of}
+use Rattle.bt_resolve.specs.Skeletons.{is_entry, AreAlike, IsLike, AreInPlace, entry_added, added, added_at}
 use Rattle.bt_resolve.proofs.SkeletonLemmas.{same_wanted, same_stored}
 use Rattle.bt_resolve.proofs.SpanLemmas.{messages_are}
 
@@ -75,7 +75,7 @@ abbrev item_of : ℕ → Content → Option Closing → Option ItemFault → Ite
 item_of line c close fault = record { line = line; content = c; close = close; fault = fault }
 
 item_tells : (a : Asked) (before macros : MacroTexts) (ss ts : List Stored) (o p : Origin) (stop end : Spot) (line next : ℕ) (x y : Content) (closed close : Option Closing) (wrong fault : Option ItemFault) (m : Mark) (s : Span) → AreAlike ss ts → IsLike before x y →
-    m.stored ≡ nat_lt (length ss) (length (with_item a before x ss)) → m.told ≡ length (item_messages a before ss o stop (item_of line x closed wrong)) → IsTrue (not (is_entry_item (item_of next y close fault)) || tells m) →
+    m.stored ≡ nat_lt (length ss) (length (with_item a before x ss)) → m.told ≡ length (item_messages a before ss o stop (item_of line x closed wrong)) → IsTrue (not (is_entry y) || tells m) →
     with_item_by a macros m p end (item_of next y close fault) s ≡ given a macros ts p end (item_of next y close fault) s
 unfolding item_messages
 item_tells a before macros ss ts o p stop end line next (contents.Entry e) (contents.Entry f) closed close wrong fault m s alike like marked count h =

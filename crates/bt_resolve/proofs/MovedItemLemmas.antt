@@ -15,10 +15,11 @@ use Rattle.bt_bib.specs.declared.item.Content.{Content}
 use Rattle.bt_bib.specs.declared.item.Content.TheVariants as contents
 use Rattle.bt_bib.specs.declared.item.Entry.{Entry}
 use Rattle.bt_log.specs.declared.message.Message.{Message}
+use Rattle.bt_log.specs.declared.message.Place.{Place}
+use Rattle.bt_log.specs.declared.message.Place.TheVariants.{DatabaseLine}
 use Rattle.bt_resolve.specs.declared.asked.Asked.{Asked}
 use Rattle.bt_resolve.specs.declared.declared.Macro.{Macro}
 use Rattle.bt_resolve.specs.declared.stored.Stored.{Stored}
-use Rattle.bt_resolve.specs.declared.place.BibLine.{BibLine}
 use Rattle.bt_resolve.specs.declared.place.Origin.{Origin}
 use Rattle.bt_resolve.specs.Names.{place_of_name}
 use Rattle.bt_resolve.specs.Values.{MacroTexts, is_named, others, joined_parts, within_limit, part_warnings, value_warnings}
@@ -38,24 +39,24 @@ use Rattle.bt_resolve.proofs.SpanLemmas.{item_added, item_told, item_said, messa
 abbrev moved_origin : Spot → Origin → Origin
 moved_origin m o = record { database = o.database; line = o.line + m.line }
 
-abbrev moved_line : Spot → BibLine → BibLine
-moved_line m place = record { database = place.database; line = place.line + m.line }
+abbrev moved_line : Spot → Origin → ℕ → Place
+moved_line m o line = DatabaseLine o.database ((o.line + line) + m.line) None
 
-line_moved : (m : Spot) (o : Origin) (line : ℕ) → line_at (moved_origin m o) line ≡ moved_line m (line_at o line)
+line_moved : (m : Spot) (o : Origin) (line : ℕ) → line_at (moved_origin m o) line ≡ moved_line m o line
 line_moved m o line =
     let sum : (o.line + m.line) + line ≡ (o.line + line) + m.line = omega arith in
-    λ j. record { database = o.database; line = sum j }
+    λ j. DatabaseLine o.database (sum j) None
 
-macro_told : (m : Spot) (own : Bool) (text : Option (List ℕ)) (place : BibLine) (name : List ℕ) → macro_warnings own text (moved_line m place) name ≡ map (moved_message m) (macro_warnings own text place name)
-macro_told m own (Some text) place name = refl
-macro_told m true None place name = refl
-macro_told m false None place name = refl
+macro_told : (m : Spot) (own : Bool) (text : Option (List ℕ)) (o : Origin) (line : ℕ) (name : List ℕ) → macro_warnings own text (moved_line m o line) name ≡ map (moved_message m) (macro_warnings own text (line_at o line) name)
+macro_told m own (Some text) o line name = refl
+macro_told m true None o line name = refl
+macro_told m false None o line name = refl
 
 part_told : (m : Spot) (own : Option (List ℕ)) (macros : MacroTexts) (o : Origin) (p : Part) → part_warnings own macros (moved_origin m o) p ≡ map (moved_message m) (part_warnings own macros o p)
 part_told m own macros o (Text text) = refl
 part_told m own macros o (MacroPart name line) =
-    ap (λ (place : BibLine). macro_warnings (is_named own name) (others own macros name) place name) (line_moved m o line)
-    ∙ macro_told m (is_named own name) (others own macros name) (line_at o line) name
+    ap (λ (place : Place). macro_warnings (is_named own name) (others own macros name) place name) (line_moved m o line)
+    ∙ macro_told m (is_named own name) (others own macros name) o line name
 
 parts_told : (m : Spot) (own : Option (List ℕ)) (macros : MacroTexts) (o : Origin) (parts : List Part) → flat_map (part_warnings own macros (moved_origin m o)) parts ≡ map (moved_message m) (flat_map (part_warnings own macros o) parts)
 parts_told m own macros o [] = refl
@@ -64,7 +65,7 @@ parts_told m own macros o (p ∷ ps) =
     ∙ sym (map-append (moved_message m) (part_warnings own macros o p) (flat_map (part_warnings own macros o) ps))
 
 length_told : (m : Spot) (text : Option (List ℕ)) (o : Origin) (line : ℕ) (name : List ℕ) → length_warnings text (line_at (moved_origin m o) line) name ≡ map (moved_message m) (length_warnings text (line_at o line) name)
-length_told m None o line name = ap (λ (place : BibLine). length_warnings None place name) (line_moved m o line)
+length_told m None o line name = ap (λ (place : Place). length_warnings None place name) (line_moved m o line)
 length_told m (Some text) o line name = refl
 
 value_told : (m : Spot) (own : Option (List ℕ)) (macros : MacroTexts) (o : Origin) (line : ℕ) (name : List ℕ) (parts : List Part) → value_warnings own macros (moved_origin m o) line name parts ≡ map (moved_message m) (value_warnings own macros o line name parts)
@@ -75,7 +76,7 @@ value_told m own macros o line name parts =
     ∙ sym (map-append (moved_message m) (flat_map (part_warnings own macros o) parts) (length_warnings text (line_at o line) name))
 
 extra_told : (m : Spot) (again : Bool) (o : Origin) (line : ℕ) (key name : List ℕ) → (if again then extra_field (line_at (moved_origin m o) line) key name ∷ [] else []) ≡ map (moved_message m) (if again then extra_field (line_at o line) key name ∷ [] else [])
-extra_told m true o line key name = ap (λ (place : BibLine). extra_field place key name ∷ []) (line_moved m o line)
+extra_told m true o line key name = ap (λ (place : Place). extra_field place key name ∷ []) (line_moved m o line)
 extra_told m false o line key name = refl
 
 field_told : (m : Spot) (macros : MacroTexts) (o : Origin) (key : List ℕ) (before : List Field) (f : Field) → field_messages macros (moved_origin m o) key before f ≡ map (moved_message m) (field_messages macros o key before f)
@@ -96,7 +97,7 @@ fields_told m declared macros o key before (f ∷ fs) =
     ∙ sym (map-append (moved_message m) (declared_messages declared macros o key before f) (fields_messages declared macros o key (before ++ f ∷ []) fs))
 
 type_told : (m : Spot) (function : Option ℕ) (o : Origin) (line : ℕ) (key : List ℕ) → type_messages function (line_at (moved_origin m o) line) key ≡ map (moved_message m) (type_messages function (line_at o line) key)
-type_told m None o line key = ap (λ (place : BibLine). type_messages None place key) (line_moved m o line)
+type_told m None o line key = ap (λ (place : Place). type_messages None place key) (line_moved m o line)
 type_told m (Some function) o line key = refl
 
 entry_told : (a : Asked) (macros : MacroTexts) (m : Spot) (o : Origin) (line : ℕ) (e : Entry) (key : List ℕ) → stored_messages a macros (moved_origin m o) line e key ≡ map (moved_message m) (stored_messages a macros o line e key)
@@ -111,7 +112,7 @@ wanted_messages a macros again o line e key =
     if again then repeated (line_at o line) key ∷ [] else stored_messages a macros o line e key
 
 wanted_told : (a : Asked) (macros : MacroTexts) (m : Spot) (again : Bool) (o : Origin) (line : ℕ) (e : Entry) (key : List ℕ) → wanted_messages a macros again (moved_origin m o) line e key ≡ map (moved_message m) (wanted_messages a macros again o line e key)
-wanted_told a macros m true o line e key = ap (λ (place : BibLine). repeated place key ∷ []) (line_moved m o line)
+wanted_told a macros m true o line e key = ap (λ (place : Place). repeated place key ∷ []) (line_moved m o line)
 wanted_told a macros m false o line e key = entry_told a macros m o line e key
 
 key_told : (a : Asked) (macros : MacroTexts) (stored : List Stored) (m : Spot) (o : Origin) (line : ℕ) (e : Entry) (key : Option (List ℕ)) → key_messages a macros stored (moved_origin m o) line e key ≡ map (moved_message m) (key_messages a macros stored o line e key)

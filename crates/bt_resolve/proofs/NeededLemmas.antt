@@ -1,6 +1,6 @@
 -- Entries inherit the same if only those inherit that are needed.
 use Rattle.std.proofs.Common.{◌≡◌, ◌≢◌, ◌∙◌, ap, sym, refl, subst, ℕ, ◌+◌, ◌<◌, ◌≤◌, Bool, true, false, List, [], ◌∷◌, length, map, drop, replicate, get_or, Option, Some, None}
-use Rattle.std.specs.Prelude.{◌==◌, slice_get, slice_set}
+use Rattle.std.specs.Prelude.{◌==◌, filter_map, slice_get, slice_set}
 use Rattle.std.specs.List.{cons_option}
 use Rattle.std.proofs.lemmas.Bool.Decides.{Decides-eqb}
 use Rattle.std.proofs.lemmas.List.{drop_all, drop_more, get_or-set_other}
@@ -89,3 +89,8 @@ pub made_of_same : (a : Asked) (min : ℕ) (stored : List Stored) (marks : List 
     entries_made (made_at a min stored vs) (is_marked marks) ps old ≡ entries_made (made_at a min stored ws) (is_marked marks) ps old
 made_of_same a min stored marks vs ws ps old same =
     entries_same (made_at a min stored vs) (made_at a min stored ws) (is_marked marks) ps old (λ p marked. ap (λ (v : Values). entry_at a min stored (λ q. v) p) (same p marked))
+
+-- without marks, all entries are made anew
+pub all_made : (made : ℕ → Option Entry) (places : List ℕ) (old : List Entry) → entries_made made (is_marked []) places old ≡ filter_map made places
+all_made made [] old = refl
+all_made made (p ∷ ps) old = ap (λ (es : List Entry). cons_option (made p) es) (all_made made ps (drop 1 old))

@@ -1,6 +1,6 @@
 -- Values of the same parts, and pieces that pair off.
-use Rattle.std.proofs.Common.{◌≡◌, ◌∙◌, ap, sym, subst, ℕ, ◌+◌, ◌<◌, ◌≤◌, List, [], ◌∷◌, ◌++◌, length, take, drop, get_or, append-nil}
-use Rattle.std.proofs.lemmas.List.{take_more, drop_more, drop_all}
+use Rattle.std.proofs.Common.{◌≡◌, ◌≢◌, ◌∙◌, ap, sym, subst, ℕ, ◌+◌, ◌<◌, ◌≤◌, List, [], ◌∷◌, ◌++◌, length, take, get_or, append-nil, arith}
+use Rattle.std.proofs.lemmas.List.{take_more}
 use Rattle.std.proofs.lemmas.Grind.{flat_map-append}
 use Rattle.bt_bib.specs.declared.item.Part.{Part}
 use Rattle.bt_bib.specs.declared.item.Piece.{Piece}
@@ -14,6 +14,7 @@ use Rattle.bt_resolve.specs.Skeletons.{AreInPlace, PairOff}
 use Rattle.bt_resolve.specs.inner.Skeletons.{IsPieceLike}
 use Rattle.bt_resolve.specs.Values.{MacroTexts, joined_parts, within_limit, value, without_first_space, without_last_space, field_value}
 use Rattle.bt_resolve.specs.inner.Cases.{part_text, joined_or_empty}
+use Rattle.bt_resolve.proofs.MarkLemmas.{only_piece}
 
 pub joined_more : (m : MacroTexts) (xs : List Part) (k : ℕ) (x : Part) → k < length xs → x ≡ get_or xs k x → joined_parts m (take (k + 1) xs) ≡ joined_parts m (take k xs) ++ part_text m x
 joined_more m xs k x less is =
@@ -36,18 +37,15 @@ pair_by ms before a b c d (pieces.Item x) (pieces.Item y) ps qs like pair =
     let one = like (macro_before ms before) in
     (one.0, one.1, pair ms (record { start = a; end = b; item = x } ∷ before))
 
-pub pair_more : (p q : PlacedPiece) (ps qs : List PlacedPiece) → IsPieceLike p.piece q.piece → PairOff ps qs → PairOff (p ∷ ps) (q ∷ qs)
-pair_more p q ps qs like pair ms before = pair_by ms before p.start p.end q.start q.end p.piece q.piece ps qs like pair
+pub none_pair : (old new : List PlacedPiece) → length old ≡ length new → length new ≡ 0 → PairOff old new
+none_pair [] [] same none ms before = tt
+none_pair [] (q ∷ qs) same none ms before = absurd (omega (arith, none))
+none_pair (p ∷ ps) new same none ms before = absurd (omega (arith, same, none))
 
-pub pair_at : (k : ℕ) (old new : List PlacedPiece) (p q : PlacedPiece) → k < length old → k < length new → p ≡ get_or old k p → q ≡ get_or new k q → IsPieceLike p.piece q.piece →
-    PairOff (drop (k + 1) old) (drop (k + 1) new) → PairOff (drop k old) (drop k new)
-pair_at k old new p q less more p_is q_is like rest =
-    let was : drop k old ≡ p ∷ drop (k + 1) old = drop_more old k p less ∙ ap (λ (x : PlacedPiece). x ∷ drop (k + 1) old) (sym p_is) in
-    let is : drop k new ≡ q ∷ drop (k + 1) new = drop_more new k q more ∙ ap (λ (x : PlacedPiece). x ∷ drop (k + 1) new) (sym q_is) in
-    subst (λ (ps : List PlacedPiece). PairOff ps (drop k new)) (sym was)
-    (subst (λ (qs : List PlacedPiece). PairOff (p ∷ drop (k + 1) old) qs) (sym is) (pair_more p q (drop (k + 1) old) (drop (k + 1) new) like rest))
-
-pub pair_none : (k : ℕ) (old new : List PlacedPiece) → length old ≤ k → length new ≤ k → PairOff (drop k old) (drop k new)
-pair_none k old new all every =
-    subst (λ (ps : List PlacedPiece). PairOff ps (drop k new)) (sym (drop_all k old all))
-    (subst (λ (qs : List PlacedPiece). PairOff [] qs) (sym (drop_all k new every)) (λ ms before. tt))
+pub one_pairs : (old new : List PlacedPiece) (p q : PlacedPiece) → length old ≡ length new → length new ≤ 1 → length new ≢ 0 → p ≡ get_or old 0 p → q ≡ get_or new 0 q → IsPieceLike p.piece q.piece → PairOff old new
+one_pairs old new p q same few some p_is q_is like ms before =
+    let was = only_piece old p (omega (arith, same, few)) (λ none. some (sym same ∙ none)) p_is in
+    let is = only_piece new q few some q_is in
+    subst (λ (ps : List PlacedPiece). AreInPlace ms before (items_of ps) (items_of new)) (sym was)
+    (subst (λ (qs : List PlacedPiece). AreInPlace ms before (items_of (p ∷ [])) (items_of qs)) (sym is)
+    (pair_by ms before p.start p.end q.start q.end p.piece q.piece [] [] like (λ all after. tt)))

@@ -40,10 +40,6 @@ pieces_done a n start ps all more s r rest none is_r is_more left =
     let passed_so : all ≡ passed a n start ps = sym (append-nil all) ∙ ap (λ (l : List PlacedPiece). all ++ passed a n s l) (sym none) ∙ left.passed_so in
     (read, is_more ∙ (λ j. passed_so j ++ (is_r ∙ ap reach read) j ∷ []))
 
-pub map_both : {A B C : Type 0} (f : B → C) (g : A → B) (xs : List A) → map (λ x. f (g x)) xs ≡ map f (map g xs)
-map_both f g [] = refl
-map_both f g (x ∷ xs) = ap (λ ys. f (g x) ∷ ys) (map_both f g xs)
-
 -- the reading is there, with the rest of the databases before it
 pub record DatabasesLeft (a : Asked) (start : State) (ds : List (List PlacedPiece)) (all : List (List Reach)) (n : ℕ) (s : State) (rest : List (List PlacedPiece)) : Type 0 where
   pub read : after_databases a n s (map items_of rest) ≡ after_databases a 1 start (map items_of ds)

@@ -1,8 +1,10 @@
 -- What depends on skeletons alone.
-use Rattle.std.proofs.Common.{◌≡◌, ◌∙◌, ap, sym, refl, ℕ, zero, suc, ◌+◌, Bool, List, [], ◌∷◌, ◌++◌, take, map, Option, Some, None}
-use Rattle.std.specs.Prelude.{◌&&◌, ◌||◌, not, cond, slice_get, filter, filter_map, fold, count_by, nat_lt, is_none, is_some, option_map, option_and_then, if◌then◌else◌}
+use Rattle.std.proofs.Common.{◌≡◌, ◌∙◌, ap, sym, refl, ℕ, suc, ◌+◌, Bool, List, [], ◌∷◌, ◌++◌, take, map, Option, Some, None}
+use Rattle.std.specs.Prelude.{◌&&◌, ◌||◌, not, cond, slice_get, filter, filter_map, count_by, nat_lt, is_none, is_some, option_map, option_and_then, if◌then◌else◌}
 use Rattle.std.specs.List.{list_any, range_with_len, cons_option, flat_map}
 use Rattle.std.proofs.lemmas.List.{length-map}
+use Rattle.std.proofs.lemmas.List.Folds.{fold-map}
+use Rattle.std.proofs.lemmas.Option.{slice_get-map}
 use Rattle.bt_text.specs.CaseFolding.{is_same_folded}
 use Rattle.bt_text.specs.ByName.{first_place}
 use Rattle.bt_text.specs.NameList.{has_name}
@@ -28,18 +30,9 @@ first_map : {X Y : Type 0} (test : Y → Bool) (f : X → Y) (xs : List X) → f
 first_map test f [] = refl
 first_map test f (x ∷ xs) = ap (λ (o : Option ℕ). if test (f x) then Some 0 else option_map (λ i. suc i) o) (first_map test f xs)
 
-filter_map_map : {X Y Z : Type 0} (g : Y → Option Z) (f : X → Y) (xs : List X) → filter_map g (map f xs) ≡ filter_map (λ x. g (f x)) xs
+pub filter_map_map : {X Y Z : Type 0} (g : Y → Option Z) (f : X → Y) (xs : List X) → filter_map g (map f xs) ≡ filter_map (λ x. g (f x)) xs
 filter_map_map g f [] = refl
 filter_map_map {Z = Z} g f (x ∷ xs) = ap (λ (zs : List Z). cons_option (g (f x)) zs) (filter_map_map g f xs)
-
-pub get_map : {X Y : Type 0} (f : X → Y) (xs : List X) (k : ℕ) → slice_get (map f xs) k ≡ option_map f (slice_get xs k)
-get_map f [] k = refl
-get_map f (x ∷ xs) zero = refl
-get_map f (x ∷ xs) (suc k) = get_map f xs k
-
-fold_map : {X Y B : Type 0} (g : B → Y → B) (f : X → Y) (b : B) (xs : List X) → fold g b (map f xs) ≡ fold (λ c x. g c (f x)) b xs
-fold_map g f b [] = refl
-fold_map g f b (x ∷ xs) = fold_map g f (g b (f x)) xs
 
 -- ---- the words of the list, of skeletons
 
@@ -68,7 +61,7 @@ cited_bare keys None = refl
 cited_bare keys (Some s) = refl
 
 bare_cited_at : (keys : List (List ℕ)) (stored : List Stored) (p : ℕ) → is_cited_at keys (map skeleton stored) p ≡ is_cited_at keys stored p
-bare_cited_at keys stored p = ap (is_cited keys) (get_map skeleton stored p) ∙ cited_bare keys (slice_get stored p)
+bare_cited_at keys stored p = ap (is_cited keys) (slice_get-map skeleton stored p) ∙ cited_bare keys (slice_get stored p)
 
 bare_cited : (keys : List (List ℕ)) (stored : List Stored) → cited_places keys (map skeleton stored) ≡ cited_places keys stored
 bare_cited keys stored = λ j. filter_map (λ key. bare_place stored key j) keys
@@ -95,12 +88,12 @@ parent_bare stored (Some s) = refl
 
 bare_parent_at : (stored : List Stored) (p : ℕ) → parent_at (map skeleton stored) p ≡ parent_at stored p
 bare_parent_at stored p =
-    (λ j. option_and_then (λ s. bare_parent_of stored s j) (get_map skeleton stored p j))
+    (λ j. option_and_then (λ s. bare_parent_of stored s j) (slice_get-map skeleton stored p j))
     ∙ parent_bare stored (slice_get stored p)
 
 bare_children : (stored : List Stored) (p : ℕ) → children (map skeleton stored) p ≡ children stored p
 bare_children stored p =
-    fold_map (λ (n : ℕ) (s : Stored). n + cond (is_place p (parent_of (map skeleton stored) s)) 1 0) skeleton 0 stored
+    fold-map (λ (n : ℕ) (s : Stored). n + cond (is_place p (parent_of (map skeleton stored) s)) 1 0) skeleton 0 stored
     ∙ (λ j. count_by (λ s. is_place p (bare_parent_of stored s j)) stored)
 
 bare_left_out : (a : Asked) (min : ℕ) (stored : List Stored) (p : ℕ) → is_left_out a min (map skeleton stored) p ≡ is_left_out a min stored p
@@ -122,7 +115,7 @@ told_bare key name (Some s) = refl
 
 option_bare : (stored : List Stored) (o : Option ℕ) → option_and_then (slice_get (map skeleton stored)) o ≡ option_map skeleton (option_and_then (slice_get stored) o)
 option_bare stored None = refl
-option_bare stored (Some p) = get_map skeleton stored p
+option_bare stored (Some p) = slice_get-map skeleton stored p
 
 bare_crossref_messages : (stored : List Stored) (key : List ℕ) (name : Option (List ℕ)) → crossref_messages (map skeleton stored) key name ≡ crossref_messages stored key name
 bare_crossref_messages stored key None = refl
@@ -138,7 +131,7 @@ entry_messages_bare keys stored (Some s) = bare_crossref_messages stored (key_sp
 bare_reference : (keys : List (List ℕ)) (stored : List Stored) (p : ℕ) → reference_messages keys (map skeleton stored) p ≡ reference_messages keys stored p
 unfolding reference_messages
 bare_reference keys stored p =
-    ap (entry_messages keys (map skeleton stored)) (get_map skeleton stored p)
+    ap (entry_messages keys (map skeleton stored)) (slice_get-map skeleton stored p)
     ∙ entry_messages_bare keys stored (slice_get stored p)
 
 bare_missing : (stored : List Stored) (key : List ℕ) → missing_messages (map skeleton stored) key ≡ missing_messages stored key
@@ -186,7 +179,7 @@ bare_seen a min stored values p =
       kind = s.kind;
       function = s.function;
       fields = with_crossref (place_of_name a.fields crossref) (bare_final a min stored s j) values;
-    }) (get_map skeleton stored p j))
+    }) (slice_get-map skeleton stored p j))
     ∙ seen_bare a min stored values (slice_get stored p)
 
 -- ---- the law

@@ -13,7 +13,7 @@ use Rattle.bt_log.specs.declared.message.Said.TheVariants.{Words}
 use Rattle.bt_log.specs.declared.message.Place.TheVariants.{DatabaseLine}
 use Rattle.bt_log.specs.declared.message.Message.{Message}
 use Rattle.bt_log.specs.Message.{skipping}
-use Rattle.bt_resolve.specs.declared.place.BibLine.{BibLine}
+use Rattle.bt_log.specs.declared.message.Place.{Place}
 
 -- what is skipped after a fault
 abbrev pub dropped_name : Content → List ℕ
@@ -57,7 +57,6 @@ fault_error database end content close fault =
     (dropped_name content))
     { entry = elim content [ contents.Entry e ↦ e.key | _ ↦ None ] }
 
-abbrev pub repeated : BibLine → List ℕ → Message
+abbrev pub repeated : Place → List ℕ → Message
 repeated place key =
-    record (skipping (Words (codes "Repeated entry")) (DatabaseLine place.database place.line None) (codes "entry"))
-    { entry = Some key }
+    record (skipping (Words (codes "Repeated entry")) place (codes "entry")) { entry = Some key }

@@ -3,7 +3,6 @@ pub mod Names
 pub mod Values
 pub mod JoinedParts
 pub mod Slots
-pub mod Entries
 pub mod Store
 pub mod Inheritance
 pub mod Family

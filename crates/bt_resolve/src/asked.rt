@@ -8,7 +8,7 @@ use crate::index::Index;
 use bt_text::{NameList, Shared};
 use std::alloc::{AllocError, Global};
 
-/// What the style and the citations ask for, hashed for look-ups.
+/// What the style and the citations ask for, ready for look-ups.
 #[derive(Drop)]
 pub struct Asked<'a> {
     pub fields: Index<'a>,
@@ -24,13 +24,10 @@ impl<'a> Asked<'a> {
     pub fn for_all(alloc: Global, declared: &'a Declared, cites: &Cites) -> Result<Self, AllocError>
         ensures { IfOk result (λ known. known ≡ asked declared.now cites.now) }
     {
-        let keys = cites.keys.share()?;
-        let fields = Index::for_many(alloc, declared.fields.as_slice())?;
-        let types = Index::for_many(alloc, declared.types.as_slice())?;
         Ok(Asked {
-            fields,
-            types,
-            keys,
+            fields: Index::for_many(alloc, declared.fields.as_slice())?,
+            types: Index::for_many(alloc, declared.types.as_slice())?,
+            keys: cites.keys.share()?,
             star: cites.star,
         })
     }
@@ -39,13 +36,10 @@ impl<'a> Asked<'a> {
     pub fn new(alloc: Global, declared: &'a Declared, cites: &Cites) -> Result<Self, AllocError>
         ensures { IfOk result (λ known. known ≡ asked declared.now cites.now) }
     {
-        let keys = cites.keys.share()?;
-        let fields = Index::new(alloc, declared.fields.as_slice())?;
-        let types = Index::new(alloc, declared.types.as_slice())?;
         Ok(Asked {
-            fields,
-            types,
-            keys,
+            fields: Index::new(alloc, declared.fields.as_slice()),
+            types: Index::new(alloc, declared.types.as_slice()),
+            keys: cites.keys.share()?,
             star: cites.star,
         })
     }

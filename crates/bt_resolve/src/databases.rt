@@ -14,21 +14,20 @@ ghost use Rattle.bt_resolve.specs.inner.Reaches.{database_reaches, reaches};
 
 use crate::asked::Asked;
 use crate::declared::Macro;
-use crate::faults::tell_fault;
 use crate::macros::style_macros;
 use crate::place::Origin;
 use crate::reader::Reader;
 use crate::reading::{Reach, Reading};
 use crate::store::Store;
-use bt_bib::{Content, Item, Items, Piece, PieceCursor, PlacedPiece, Spot};
+use bt_bib::{Content, Items, Piece, PieceCursor, PlacedPiece};
 use bt_text::{Bytes, Sequence, Shared};
 use std::alloc::{AllocError, Global};
 
 impl Reader<'_> {
-    fn content(&self, item: &Item, reading: &mut Reading) -> Result<(), AllocError>
+    fn content(&self, reading: &mut Reading) -> Result<(), AllocError>
         requires { IsTrue (are_apart self.now.asked.now.fields) }
         ensures { OnOk result (state_of reading.new
-            ≡ after_content self.now.asked.now self.now.origin item.now (state_of reading.old)) }
+            ≡ after_content self.now.asked.now self.now.origin self.now.item.now (state_of reading.old)) }
     {
         let Reading {
             macros,
@@ -36,27 +35,21 @@ impl Reader<'_> {
             preamble,
             messages,
         } = reading;
-        match &item.content {
-            Content::Entry(entry) => self.entry(item.line, entry, macros, store, messages),
-            Content::Define(string) => self.string(item, string, macros, messages),
-            Content::Preamble(parts) => self.preamble(item, parts, macros, preamble, messages),
+        match &self.item.content {
+            Content::Entry(entry) => self.entry(entry, macros, store, messages),
+            Content::Define(string) => self.string(string, macros, messages),
+            Content::Preamble(parts) => self.preamble(parts, macros, preamble, messages),
         }
     }
 
     #[tactic(auto, unfolding(crate::specs::Messages::item_messages))]
-    fn item(&self, item: &Item, end: Spot, reading: &mut Reading) -> Result<(), AllocError>
+    fn item(&self, reading: &mut Reading) -> Result<(), AllocError>
         requires { IsTrue (are_apart self.now.asked.now.fields) }
         ensures { OnOk result (state_of reading.new
-            ≡ after_item self.now.asked.now self.now.origin end item.now (state_of reading.old)) }
+            ≡ after_item self.now.asked.now self.now.origin self.now.end self.now.item.now (state_of reading.old)) }
     {
-        self.content(item, reading)?;
-        tell_fault(
-            self.alloc,
-            self.origin.database,
-            end,
-            item,
-            &mut reading.messages,
-        )
+        self.content(reading)?;
+        self.tell_fault(&mut reading.messages)
     }
 }
 
@@ -77,12 +70,14 @@ fn read_piece(
             let reader = Reader {
                 alloc,
                 asked: &*asked,
+                item,
                 origin: Origin {
                     database,
                     line: piece.start.line,
                 },
+                end: piece.end,
             };
-            reader.item(item, piece.end, reading)
+            reader.item(reading)
         }
     }
 }
@@ -125,18 +120,18 @@ pub fn nothing_read(alloc: Global, macros: &[Macro]) -> Result<Reading, AllocErr
 pub fn read_databases(
     alloc: Global,
     asked: &Asked<'_>,
-    databases: &[&Items],
+    databases: &[Shared<Items>],
     reading: &mut Reading,
 ) -> Result<Sequence<Sequence<Reach>>, AllocError>
     requires { IsTrue (are_apart asked.now.fields) }
     ensures read { OnOk result (state_of reading.new ≡ after_databases asked.now 1 (state_of reading.old)
-        (map (λ d. items_of d.now) databases.now)) }
+        (map items_of databases.now)) }
     ensures reaches { IfOk result (λ all. all
-        ≡ database_reaches asked.now 1 (state_of reading.old) (map (λ d. d.now) databases.now)) }
+        ≡ database_reaches asked.now 1 (state_of reading.old) databases.now) }
 {
     let mut all = Sequence::new(alloc);
     'databases: for i in 0..databases.len() {
-        let database = databases[i];
+        let database = &databases[i];
         let reaches = read_pieces(alloc, asked, i + 1, database.pieces(), reading)?;
         all.push(reaches)?;
     }

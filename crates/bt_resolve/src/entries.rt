@@ -3,7 +3,6 @@
 ghost use Rattle.std.specs.Prelude.{◌≡◌, ◌++◌, IfOk, IsTrue, OnOk};
 ghost use Rattle.bt_text.specs.ByName.{known};
 ghost use Rattle.bt_text.specs.CaseFolding.{folded};
-ghost use Rattle.bt_resolve.specs.inner.Entries.{standing_of};
 ghost use Rattle.bt_resolve.specs.inner.Slots.{given_by};
 ghost use Rattle.bt_resolve.specs.Messages.{stored_messages};
 ghost use Rattle.bt_resolve.specs.inner.Cases.{type_messages, with_entry};
@@ -35,12 +34,6 @@ pub fn kind_of(entry: &Entry) -> &[u8]
     }
 }
 
-fn small_letters(alloc: Global, text: &[u8]) -> Result<Shared<Bytes>, AllocError>
-    ensures { IfOk result (λ small. small ≡ folded text.now) }
-{
-    Shared::new(alloc, to_ascii_lowercase(alloc, text)?)
-}
-
 fn with_given(
     alloc: Global,
     key: &Shared<Bytes>,
@@ -59,21 +52,11 @@ fn with_given(
     let values = given.values.into_shared(alloc)?;
     Ok(Stored {
         key: key.share()?,
-        kind: small_letters(alloc, kind)?,
+        kind: Shared::new(alloc, to_ascii_lowercase(alloc, kind)?)?,
         function,
         crossref: given.crossref,
         values,
     })
-}
-
-/// Whether an entry is stored, given those that already are.
-#[derive(Drop)]
-enum Standing {
-    Unwanted,
-    /// Its key has an entry already.
-    Repeated,
-    /// It is the first wanted entry of its key.
-    First,
 }
 
 impl Reader<'_> {
@@ -87,31 +70,19 @@ impl Reader<'_> {
         )
     }
 
-    fn standing_of(&self, store: &Store, key: &[u8]) -> Result<Standing, AllocError>
-        ensures { IfOk result (λ standing. standing ≡ standing_of self.now.asked.now store.now key.now) }
-    {
-        if !self.is_wanted(store, key)? {
-            Ok(Standing::Unwanted)
-        } else if store.has(self.alloc, key)? {
-            Ok(Standing::Repeated)
-        } else {
-            Ok(Standing::First)
-        }
-    }
-
     /// Reports that a type has no function.
     fn tell_type(
         &self,
         function: Option<usize>,
-        line: usize,
         key: &[u8],
         messages: &mut Sequence<Message>,
     ) -> Result<(), AllocError>
         ensures { OnOk result (messages.new ≡ messages.old
-            ++ type_messages function (line_at self.now.origin line) key.now) }
+            ++ type_messages function (line_at self.now.origin self.now.item.now.line) key.now) }
     {
+        let place = self.origin.place(self.item.line);
         match function {
-            None => add_message(messages, no_function(self.alloc, self.place(line), key)?),
+            None => add_message(messages, no_function(self.alloc, place, key)?),
             Some(_) => Ok(()),
         }
     }
@@ -143,7 +114,6 @@ impl Reader<'_> {
     #[tactic(auto, unfolding(crate::specs::Stored::stored_of, crate::specs::Messages::stored_messages))]
     pub fn stored(
         &self,
-        line: usize,
         entry: &Entry,
         key: &Shared<Bytes>,
         macros: &ByName<MacroText>,
@@ -154,11 +124,11 @@ impl Reader<'_> {
         ensures stored { IfOk result (λ stored. stored ≡ stored_of self.now.asked.now (known macros.now)
             entry.now key.now) }
         ensures messages { OnOk result (messages.new ≡ messages.old
-            ++ messages_of_stored self.now (known macros.now) line entry.now key.now) }
+            ++ messages_of_stored self.now (known macros.now) entry.now key.now) }
     {
         let kind = kind_of(entry);
         let function = self.asked.types.place(self.alloc, kind)?;
-        self.tell_type(function, line, key.as_slice(), messages)?;
+        self.tell_type(function, key.as_slice(), messages)?;
         let given = self.given(entry, key.as_slice(), macros, messages)?;
         with_given(self.alloc, key, kind, function, given)
     }
@@ -166,7 +136,6 @@ impl Reader<'_> {
     /// Reads an entry: it is stored if it is the first wanted one of its key.
     pub fn entry(
         &self,
-        line: usize,
         entry: &Entry,
         macros: &ByName<MacroText>,
         store: &mut Store,
@@ -176,20 +145,19 @@ impl Reader<'_> {
         ensures store { OnOk result (store.new ≡ with_entry self.now.asked.now (known macros.now)
             entry.now entry.now.key store.old) }
         ensures messages { OnOk result (messages.new ≡ messages.old
-            ++ messages_of_entry self.now (known macros.now) store.old line entry.now) }
+            ++ messages_of_entry self.now (known macros.now) store.old entry.now) }
     {
         let Some(key) = &entry.key else {
             return Ok(());
         };
-        match self.standing_of(store, key.as_slice())? {
-            Standing::Unwanted => Ok(()),
-            Standing::Repeated => {
-                add_message(messages, repeated(self.alloc, self.place(line), key)?)
-            }
-            Standing::First => {
-                let stored = self.stored(line, entry, key, macros, messages)?;
-                store.push(self.alloc, stored)
-            }
+        if !self.is_wanted(store, key.as_slice())? {
+            return Ok(());
         }
+        if store.has(self.alloc, key.as_slice())? {
+            let place = self.origin.place(self.item.line);
+            return add_message(messages, repeated(self.alloc, place, key)?);
+        }
+        let stored = self.stored(entry, key, macros, messages)?;
+        store.push(self.alloc, stored)
     }
 }

@@ -4,8 +4,10 @@ ghost use Rattle.std.specs.Prelude.{◌≡◌, ◌++◌, IfOk, OnOk, codes};
 ghost use Rattle.bt_resolve.specs.Faults.{fault_error, fault_words, repeated, unclosed_command, unclosed_entry, what_name, dropped_name};
 ghost use Rattle.bt_resolve.specs.inner.Cases.{sign_of, fault_messages, key_of, unclosed};
 
+use crate::inheritance::shared;
 use crate::messages::add_message;
-use bt_bib::{Closing, Content, Item, ItemFault, NameRole, Spot};
+use crate::reader::Reader;
+use bt_bib::{Closing, Content, ItemFault, NameRole};
 use bt_log::{Message, Place, Said};
 use bt_text::{Bytes, Sequence, Shared};
 use std::alloc::{AllocError, Global};
@@ -66,12 +68,6 @@ fn unclosed(alloc: Global, content: &Content, close: Option<Closing>) -> Result<
     }
 }
 
-fn missing(alloc: Global, name: &[u8]) -> Result<Bytes, AllocError>
-    ensures { IfOk result (λ words. words ≡ codes "You're missing " ++ name.now) }
-{
-    Bytes::of(alloc, &[b"You're missing ", name])
-}
-
 fn followed(alloc: Global, sign: &[u8], name: &[u8]) -> Result<Bytes, AllocError>
     ensures { IfOk result (λ words. words ≡ codes "\"" ++ sign.now ++ codes "\" immediately follows " ++ name.now) }
 {
@@ -89,7 +85,7 @@ fn fault_words(
 {
     match fault {
         ItemFault::EndOfFile => Bytes::copied(alloc, b"Illegal end of database file"),
-        ItemFault::MissingName(what) => missing(alloc, what_name(what)),
+        ItemFault::MissingName(what) => Bytes::of(alloc, &[b"You're missing ", what_name(what)]),
         ItemFault::BadNameEnd(what, byte) => followed(alloc, &[byte], what_name(what)),
         ItemFault::ExpectedOpen => Bytes::copied(alloc, b"I was expecting a `{' or a `('"),
         ItemFault::ExpectedCommaOrClose => unclosed(alloc, content, close),
@@ -103,65 +99,47 @@ fn key_of(content: &Content) -> Result<Option<Shared<Bytes>>, AllocError>
     ensures { IfOk result (λ key. key ≡ key_of content.now) }
 {
     match content {
-        Content::Entry(entry) => match &entry.key {
-            None => Ok(None),
-            Some(key) => Ok(Some(key.share()?)),
-        },
+        Content::Entry(entry) => shared(&entry.key),
         Content::Define(_) | Content::Preamble(_) => Ok(None),
     }
 }
 
-fn fault_error(
-    alloc: Global,
-    database: usize,
-    end: Spot,
-    item: &Item,
-    fault: ItemFault,
-) -> Result<Message, AllocError>
-    ensures { IfOk result (λ message. message ≡ fault_error database end item.now.content item.now.close fault) }
-{
-    let words = fault_words(alloc, &item.content, item.close, fault)?;
-    let said = Said::Words(Shared::new(alloc, words)?);
-    let place = Place::DatabaseLine {
-        database,
-        line: end.line as u128,
-        byte: Some(end.place),
-    };
-    let mut message = Message::skipping(alloc, said, place, dropped_name(&item.content))?;
-    message.entry = key_of(&item.content)?;
-    Ok(message)
-}
+impl Reader<'_> {
+    fn fault_error(&self, fault: ItemFault) -> Result<Message, AllocError>
+        ensures { IfOk result (λ message. message ≡ fault_error self.now.origin.database self.now.end
+            self.now.item.now.content self.now.item.now.close fault) }
+    {
+        let content = &self.item.content;
+        let words = fault_words(self.alloc, content, self.item.close, fault)?;
+        let said = Said::Words(Shared::new(self.alloc, words)?);
+        let place = Place::DatabaseLine {
+            database: self.origin.database,
+            line: self.end.line as u128,
+            byte: Some(self.end.place),
+        };
+        let mut message = Message::skipping(self.alloc, said, place, dropped_name(content))?;
+        message.entry = key_of(content)?;
+        Ok(message)
+    }
 
-/// Reports the fault of an item of a database, if it has one. `end` is the item's end, where its fault is.
-pub fn tell_fault(
-    alloc: Global,
-    database: usize,
-    end: Spot,
-    item: &Item,
-    messages: &mut Sequence<Message>,
-) -> Result<(), AllocError>
-    ensures { OnOk result (messages.new ≡ messages.old ++ fault_messages database end
-        item.now.content item.now.close item.now.fault) }
-{
-    match item.fault {
-        None => Ok(()),
-        Some(fault) => {
-            add_message(messages, fault_error(alloc, database, end, item, fault)?)?;
-            Ok(())
+    /// Reports the fault of the item, if it has one.
+    pub fn tell_fault(&self, messages: &mut Sequence<Message>) -> Result<(), AllocError>
+        ensures { OnOk result (messages.new ≡ messages.old ++ fault_messages self.now.origin.database self.now.end
+            self.now.item.now.content self.now.item.now.close self.now.item.now.fault) }
+    {
+        match self.item.fault {
+            None => Ok(()),
+            Some(fault) => add_message(messages, self.fault_error(fault)?),
         }
     }
 }
 
 /// The error that an entry's key is stored already.
-pub fn repeated(
-    alloc: Global,
-    place: crate::place::BibLine,
-    key: &Shared<Bytes>,
-) -> Result<Message, AllocError>
+pub fn repeated(alloc: Global, place: Place, key: &Shared<Bytes>) -> Result<Message, AllocError>
     ensures { IfOk result (λ message. message ≡ repeated place key.now) }
 {
     let said = Said::Words(Shared::<Bytes>::copied(alloc, b"Repeated entry")?);
-    let mut message = Message::skipping(alloc, said, place.of_message(), b"entry")?;
+    let mut message = Message::skipping(alloc, said, place, b"entry")?;
     message.entry = Some(key.share()?);
     Ok(message)
 }

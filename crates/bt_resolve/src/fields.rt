@@ -4,7 +4,7 @@
 //! field's value goes into the slot of its name, unless the slot is already filled. So the messages come in the order
 //! of the fields, including those about values that don't count.
 
-ghost use Rattle.std.specs.Prelude.{◌≡◌, ◌++◌, Some, IfOk, IsTrue, OnOk, slice_get};
+ghost use Rattle.std.specs.Prelude.{◌≡◌, ◌++◌, true, IfOk, IsTrue, OnOk, slice_get};
 ghost use Rattle.bt_text.specs.ByName.{known};
 ghost use Rattle.bt_text.specs.NameList.{are_apart};
 ghost use Rattle.bt_resolve.specs.inner.Slots.{extra_messages, fill, given_by, is_filled, is_filled_at, slot_of, with_field};
@@ -119,26 +119,14 @@ impl FieldReader<'_> {
         trimmed(self.alloc, value)
     }
 
-    /// Puts a value in its slot, or reports that the slot was filled by an earlier field.
-    fn put(
-        &self,
-        field: &Field,
-        slot: Slot,
-        value: Shared<Bytes>,
-        given: &mut Given,
-        messages: &mut Sequence<Message>,
-    ) -> Result<(), AllocError>
-        ensures given { OnOk result (given.new ≡ with_field (Some slot) value given.old) }
-        ensures messages { OnOk result (messages.new ≡ messages.old
-            ++ extra_messages (is_filled slot given.old) self.now.origin self.now.key.now field.now) }
+    /// Reports that an earlier field has the name of a field.
+    fn tell_extra(&self, field: &Field, messages: &mut Sequence<Message>) -> Result<(), AllocError>
+        ensures { OnOk result (messages.new ≡ messages.old
+            ++ extra_messages true self.now.origin self.now.key.now field.now) }
     {
-        if is_filled(given, slot) {
-            let place = self.origin.place(field.line);
-            let message = extra_field(self.alloc, place, self.key, field.name.as_slice())?;
-            add_message(messages, message)
-        } else {
-            fill(given, slot, value)
-        }
+        let place = self.origin.place(field.line);
+        let message = extra_field(self.alloc, place, self.key, field.name.as_slice())?;
+        add_message(messages, message)
     }
 
     fn field(
@@ -156,7 +144,11 @@ impl FieldReader<'_> {
             return Ok(());
         };
         let value = self.value(field, messages)?;
-        self.put(field, slot, value, given, messages)
+        if is_filled(given, slot) {
+            self.tell_extra(field, messages)
+        } else {
+            fill(given, slot, value)
+        }
     }
 
     /// Reads the fields of the entry.

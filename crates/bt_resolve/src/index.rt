@@ -1,14 +1,15 @@
-//! Names with their places, found by hashing.
+//! Names with their places.
 //!
 //! A database repeats a few names in all its entries. For a run that reads whole databases, the answers for such names are
-//! at hand, each in the slot that its length, its first byte and the one in its middle give. So most look-ups hash nothing.
+//! at hand, each in the slot that its length, its first byte and the one in its middle give. So most look-ups hash
+//! nothing. An edit looks up a few names, and compares each with all of them, since hashing all would take more time.
 
 ghost use Rattle.std.specs.Prelude.{◌≡◌, ℕ, List, Option, IfOk, IfSome};
 ghost use Rattle.bt_text.specs.ByName.{known};
 ghost use Rattle.bt_resolve.specs.Names.{place_of_name};
 ghost use Rattle.bt_resolve.specs.inner.Names.{AreKnown};
 
-use bt_text::{ByName, Bytes};
+use bt_text::{ByName, Bytes, eq_ignore_ascii_case};
 use std::alloc::{AllocError, Global};
 use std::marker::Model;
 
@@ -26,17 +27,18 @@ pub struct Known<'a> {
     place: Option<usize>,
 }
 
-/// Names, no two of which match, with their places. Contracts see the names in order.
+/// Names with their places. Contracts see the names in order.
 #[derive(Drop)]
 pub struct Index<'a> {
     names: &'a [Bytes],
-    places: ByName<usize>,
+    /// The places by names; none in an index for few look-ups.
+    places: Option<ByName<usize>>,
     /// What is at hand, each name in its slot; nothing in an index for few look-ups.
     slots: Vec<Known<'a>>,
 }
 
 impl<'a> Model for Index<'a> {
-    ghost use Rattle.std.specs.Prelude.{◌≡◌, List, ℕ};
+    ghost use Rattle.std.specs.Prelude.{◌≡◌, List, ℕ, IfSome};
     ghost use Rattle.bt_text.specs.ByName.{known};
     ghost use Rattle.bt_resolve.specs.Names.{place_of_name};
     ghost use Rattle.bt_resolve.specs.inner.Names.{AreKnown};
@@ -45,8 +47,20 @@ impl<'a> Model for Index<'a> {
 
     ghost view = { λ index. index.names.now };
 
-    ghost invariant = { λ index. (known index.places ≡ place_of_name index.names.now)
+    ghost invariant = { λ index. IfSome index.places (λ places. known places ≡ place_of_name index.names.now)
         × AreKnown (place_of_name index.names.now) index.slots.items };
+}
+
+/// The place of the first name that matches a name.
+fn place_of(names: &[Bytes], name: &[u8]) -> Option<usize>
+    ensures { result ≡ place_of_name names.now name.now }
+{
+    'names: for place in 0..names.len() {
+        if eq_ignore_ascii_case(names[place].as_slice(), name) {
+            return Some(place);
+        }
+    }
+    None
 }
 
 /// It is filled from the last name to the first, so if names match, the first one's place is kept.
@@ -81,10 +95,7 @@ fn put_in_slot<'a>(slots: &mut Vec<&'a [u8]>, name: &'a [u8]) {
 
 /// Common names and these, each in its slot. A slot without a name has the empty one.
 fn names_in_slots<'a>(alloc: Global, names: &'a [Bytes]) -> Result<Vec<&'a [u8]>, AllocError> {
-    let mut slots = Vec::with_capacity(alloc, SLOTS)?;
-    'slots: for _ in 0..SLOTS {
-        slots.push(b"".as_slice())?;
-    }
+    let mut slots = vec![in alloc; b"".as_slice(); SLOTS]?;
     'common: for name in COMMON.split(|byte| *byte == b' ') {
         put_in_slot(&mut slots, name);
     }
@@ -94,17 +105,17 @@ fn names_in_slots<'a>(alloc: Global, names: &'a [Bytes]) -> Result<Vec<&'a [u8]>
     Ok(slots)
 }
 
-/// What is known of these names.
+/// What is known of the names at hand, with the places of these names.
 fn all_known<'a>(
     alloc: Global,
-    names: &[&'a [u8]],
-    places: &ByName<usize>,
+    at_hand: &[&'a [u8]],
+    names: &[Bytes],
 ) -> Result<Vec<Known<'a>>, AllocError>
-    ensures { IfOk result (λ slots. AreKnown (known places.now) slots.items) }
+    ensures { IfOk result (λ slots. AreKnown (place_of_name names.now) slots.items) }
 {
-    let mut slots = Vec::with_capacity(alloc, names.len())?;
-    'names: for name in names {
-        let place = places.get(alloc, *name)?.copied();
+    let mut slots = Vec::with_capacity(alloc, at_hand.len())?;
+    'names: for name in at_hand {
+        let place = place_of(names, *name);
         slots.push(Known { name: *name, place })?;
     }
     Ok(slots)
@@ -122,25 +133,24 @@ fn known_at(slots: &[Known], name: &[u8]) -> Option<Option<usize>>
 }
 
 impl<'a> Index<'a> {
-    /// The places of some names.
-    pub fn new(alloc: Global, names: &'a [Bytes]) -> Result<Self, AllocError>
-        ensures { IfOk result (λ index. index ≡ names.now) }
+    /// The places of some names. Allocates nothing.
+    pub fn new(alloc: Global, names: &'a [Bytes]) -> Self
+        ensures { result ≡ names.now }
     {
-        let places = place_table(alloc, names)?;
-        Ok(Index {
+        Index {
             names,
-            places,
+            places: None,
             slots: Vec::new(alloc),
-        })
+        }
     }
 
     /// The places of some names, for many look-ups.
     pub fn for_many(alloc: Global, names: &'a [Bytes]) -> Result<Self, AllocError>
         ensures { IfOk result (λ index. index ≡ names.now) }
     {
-        let places = place_table(alloc, names)?;
         let at_hand = names_in_slots(alloc, names)?;
-        let slots = all_known(alloc, at_hand.as_slice(), &places)?;
+        let slots = all_known(alloc, at_hand.as_slice(), names)?;
+        let places = Some(place_table(alloc, names)?);
         Ok(Index {
             names,
             places,
@@ -152,9 +162,12 @@ impl<'a> Index<'a> {
     pub fn place(&self, alloc: Global, name: &[u8]) -> Result<Option<usize>, AllocError>
         ensures { IfOk result (λ place. place ≡ place_of_name self.now name.now) }
     {
-        match known_at(self.slots.as_slice(), name) {
-            Some(place) => Ok(place),
-            None => Ok(self.places.get(alloc, name)?.copied()),
+        if let Some(place) = known_at(self.slots.as_slice(), name) {
+            return Ok(place);
+        }
+        match &self.places {
+            None => Ok(place_of(self.names, name)),
+            Some(places) => Ok(places.get(alloc, name)?.copied()),
         }
     }
 

@@ -37,15 +37,6 @@ impl Model for JoinedParts {
     ghost view = { λ joined. bytes_of joined.holder };
 }
 
-fn both(alloc: Global, front: &[u8], back: &[u8]) -> Result<Bytes, AllocError>
-    ensures { IfOk result (λ text. text ≡ front.now ++ back.now) }
-{
-    let mut bytes = Vec::with_capacity(alloc, front.len().saturating_add(back.len()))?;
-    bytes.extend_from_slice(front)?;
-    bytes.extend_from_slice(back)?;
-    Ok(Bytes::from_vec(bytes))
-}
-
 /// A text with each run of white space replaced by one space. It is shared if each is one space already.
 fn white_joined(alloc: Global, text: Shared<Bytes>) -> Result<Shared<Bytes>, AllocError>
     ensures { IfOk result (λ joined. joined ≡ white_joined text) }
@@ -102,7 +93,7 @@ impl JoinedParts {
         if let Holder::Own(text) = &mut self.holder {
             return text.append(more);
         }
-        let all = both(alloc, self.as_slice(), more)?;
+        let all = Bytes::of(alloc, &[self.as_slice(), more])?;
         self.holder = Holder::Own(all);
         Ok(())
     }

@@ -13,7 +13,7 @@ ghost use Rattle.std.specs.Prelude.{◌≡◌, ◌+◌, ◌++◌, ◌^◌, ◌<�
 ghost use Rattle.bt_bib.specs.Items.{items_of};
 ghost use Rattle.bt_text.specs.ByName.{known};
 ghost use Rattle.bt_text.specs.NameList.{are_apart};
-ghost use Rattle.bt_resolve.specs.inner.Kept.{IsAround, IsEditOf, IsFound, IsNewSpan, IsPlace, AreAhead, IsResolvedEdit, IsSpanEdit, asked_by, found_of, mark_of, resolved_for, with_database};
+ghost use Rattle.bt_resolve.specs.inner.Kept.{IsAround, IsEditOf, IsFound, IsNewSpan, IsPlace, AreBefore, IsResolvedEdit, IsSpanEdit, asked_by, found_of, mark_of, resolved_for, with_database};
 ghost use Rattle.bt_resolve.specs.References.{list_messages};
 ghost use Rattle.bt_resolve.specs.inner.Inheritance.{seen_of};
 
@@ -23,14 +23,14 @@ use crate::entry::{Entry, Resolved};
 use crate::family::Family;
 use crate::inheritance::values_read;
 use crate::macro_text::MacroText;
-use crate::macros_ahead::{define_nothing, have_no_strings, macros_before};
+use crate::macros_before::{define_nothing, have_no_strings, macros_before};
 use crate::moved_messages::patched;
 use crate::question::Question;
 use crate::reading::{Reach, Reading};
 use crate::resolution::resolve_list;
-use crate::seen_edit::{SeenEdit, put_seen, seen_edit};
-use crate::short_edit::is_short;
-use crate::span::{Mark, Span, read_span};
+use crate::seen_edit::{SeenEdit, put_seen};
+use crate::skeleton::is_short;
+use crate::span::{Mark, Span, SpanReader};
 use crate::store::Store;
 use crate::stored::FieldValues;
 use crate::view::Seen;
@@ -98,17 +98,10 @@ pub struct Around {
 fn reach_around(reaches: &[Reach], before: usize, upto: usize) -> Option<Around>
     ensures { IfSome result (λ r. IsAround reaches.now before upto r) }
 {
-    let count = reaches.len();
-    if before >= count || upto >= count {
-        return None;
-    }
-    let first = &reaches[before];
-    let past = &reaches[upto];
-    let last = &reaches[count - 1];
     Some(Around {
-        first: *first,
-        past: *past,
-        last: *last,
+        first: *reaches.get(before)?,
+        past: *reaches.get(upto)?,
+        last: *reaches.last()?,
     })
 }
 
@@ -121,57 +114,64 @@ fn mark_of(around: Around) -> Mark
     }
 }
 
-/// What the new piece of an edit gives, with these macros before it. None if it isn't known whether its entry is stored, or
-/// the messages aren't as many as before.
-fn new_span(
-    alloc: Global,
-    asked: &Asked<'_>,
-    macros: &ByName<MacroText>,
-    number: usize,
-    edit: &ItemsEdit,
-    around: Around,
-) -> Result<Option<Span>, AllocError>
-    requires few { length edit.now.new ≤ 1 }
-    requires number { number + 1 < 2 ^ 64 }
-    requires fields { IsTrue (are_apart asked.now.fields) }
-    ensures { IfOk result (λ read. IfSome read (λ span.
-        IsNewSpan asked.now (known macros.now) number edit.now around span)) }
-{
-    let mark = mark_of(around);
-    let new = edit.new.pieces();
-    let Some(span) = read_span(alloc, asked, number + 1, mark, new, macros)? else {
-        return Ok(None);
-    };
-    if span.messages.len() != mark.told {
-        return Ok(None);
-    }
-    Ok(Some(span))
+/// What an edit finds: the resolution before it, and how far the reading was around the pieces that it replaces.
+#[derive(Clone, Copy, Drop)]
+pub struct EditView<'a, 'n> {
+    pub alloc: Global,
+    pub asked: &'a Asked<'n>,
+    /// The least number of references.
+    pub min: u32,
+    pub found: &'a Found,
+    pub around: Around,
 }
 
-/// What an edit of at most one piece changes, if the new one gives this.
-fn span_edit(
-    alloc: Global,
-    asked: &Asked<'_>,
-    min: u32,
-    found: &Found,
-    span: &Span,
-    edit: &ItemsEdit,
-    around: Around,
-) -> Result<Option<ResolvedEdit>, AllocError>
-    ensures { IfOk result (λ made. IfSome made (λ e.
-        IsSpanEdit asked.now min found.now span.now edit.now around e)) }
-{
-    let stored = span.stored.as_slice();
-    let place = around.first.stored;
-    let Some(seen) = seen_edit(alloc, asked, min, place, found, stored)? else {
-        return Ok(None);
-    };
-    let all = found.all.messages.as_slice();
-    let told = span.messages.as_slice();
-    let Some(messages) = patched(alloc, all, told, around, edit)? else {
-        return Ok(None);
-    };
-    Ok(Some(ResolvedEdit { seen, messages }))
+impl EditView<'_, '_> {
+    /// What the new piece gives, with these macros before it. None if it isn't known whether its entry is stored, or the
+    /// messages aren't as many as before.
+    fn new_span(
+        &self,
+        macros: &ByName<MacroText>,
+        number: usize,
+        edit: &ItemsEdit,
+    ) -> Result<Option<Span>, AllocError>
+        requires few { length edit.now.new ≤ 1 }
+        requires number { number + 1 < 2 ^ 64 }
+        requires fields { IsTrue (are_apart self.now.asked.now.fields) }
+        ensures { IfOk result (λ read. IfSome read (λ span.
+            IsNewSpan self.now.asked.now (known macros.now) number edit.now self.now.around span)) }
+    {
+        let mark = mark_of(self.around);
+        let reader = SpanReader {
+            alloc: self.alloc,
+            asked: self.asked,
+            macros,
+            database: number + 1,
+            mark,
+        };
+        let Some(span) = reader.span(edit.new.pieces())? else {
+            return Ok(None);
+        };
+        if span.messages.len() != mark.told {
+            return Ok(None);
+        }
+        Ok(Some(span))
+    }
+
+    /// What an edit of at most one piece changes, if the new one gives this.
+    fn span_edit(&self, span: &Span, edit: &ItemsEdit) -> Result<Option<ResolvedEdit>, AllocError>
+        ensures { IfOk result (λ made. IfSome made (λ e. IsSpanEdit self.now.asked.now self.now.min
+            self.now.found.now span.now edit.now self.now.around e)) }
+    {
+        let Some(seen) = self.seen_edit(span.stored.as_slice())? else {
+            return Ok(None);
+        };
+        let all = self.found.all.messages.as_slice();
+        let told = span.messages.as_slice();
+        let Some(messages) = patched(self.alloc, all, told, self.around, edit)? else {
+            return Ok(None);
+        };
+        Ok(Some(ResolvedEdit { seen, messages }))
+    }
 }
 
 /// What is kept of a reading, whose entries are in `store`.
@@ -184,49 +184,25 @@ fn found_of(
 ) -> Result<Found, AllocError>
     ensures { IfOk result (λ found. found ≡ found_of (record read { store = store }) reaches seen) }
 {
-    let Reading {
-        macros,
-        preamble,
-        messages,
-        ..
-    } = read;
-    let Seen {
-        listed,
-        places,
-        entries,
-    } = seen;
     let values = Sequence::from_vec(values_read(alloc, store.entries())?);
-    let macros = Shared::new(alloc, macros)?;
-    let preamble = Shared::new(alloc, preamble)?;
     let all = Resolved {
-        entries,
-        preamble,
-        messages,
+        entries: seen.entries,
+        preamble: Shared::new(alloc, read.preamble)?,
+        messages: read.messages,
     };
     Ok(Found {
-        macros,
+        macros: Shared::new(alloc, read.macros)?,
         store,
         values,
-        listed,
+        listed: seen.listed,
         reaches,
-        places,
+        places: seen.places,
         all,
     })
 }
 
-fn all_lent<'a>(alloc: Global, databases: &'a [Shared<Items>]) -> Result<Vec<&'a Items>, AllocError>
-    ensures pieces { IfOk result (λ lent. map (λ d. d.now) lent.items ≡ databases.now) }
-    ensures items { IfOk result (λ lent. map (λ d. items_of d.now) lent.items ≡ map items_of databases.now) }
-{
-    let mut lent = Vec::new(alloc);
-    'databases: for database in databases {
-        lent.push(&**database)?;
-    }
-    Ok(lent)
-}
-
 /// Resolves the list, once all is read.
-fn found_in(
+pub fn found_in(
     alloc: Global,
     asked: &Asked<'_>,
     min: u32,
@@ -253,8 +229,8 @@ fn find_asked(alloc: Global, asked: &Asked<'_>, question: &Question) -> Result<F
     ensures { IfOk result (λ found. IsFound question.now found) }
 {
     let mut read = nothing_read(alloc, question.declared.macros.as_slice())?;
-    let databases = all_lent(alloc, question.databases.as_slice())?;
-    let reaches = read_databases(alloc, asked, databases.as_slice(), &mut read)?;
+    let databases = question.databases.as_slice();
+    let reaches = read_databases(alloc, asked, databases, &mut read)?;
     let found = found_in(alloc, asked, question.min, read, reaches)?;
     Ok(found)
 }
@@ -294,7 +270,7 @@ impl Resolution {
     }
 
     /// What macros stand for before a piece of a database.
-    fn macros_ahead(
+    fn macros_before(
         &self,
         alloc: Global,
         asked: &Asked<'_>,
@@ -302,7 +278,7 @@ impl Resolution {
         before: usize,
     ) -> Result<Shared<ByName<MacroText>>, AllocError>
         requires { IsPlace self.now number before }
-        ensures { IfOk result (λ macros. AreAhead self.now number before (known macros)) }
+        ensures { IfOk result (λ macros. AreBefore self.now number before (known macros)) }
     {
         let databases = self.question.databases.as_slice();
         let items = &databases[number];
@@ -347,13 +323,19 @@ impl Resolution {
             return Ok(None);
         };
         let asked = Asked::new(alloc, &self.question.declared, &self.question.cites)?;
-        let macros = self.macros_ahead(alloc, &asked, number, edit.before)?;
-        let read = new_span(alloc, &asked, &macros, number, edit, around)?;
+        let macros = self.macros_before(alloc, &asked, number, edit.before)?;
+        let view = EditView {
+            alloc,
+            asked: &asked,
+            min: self.question.min,
+            found: &self.found,
+            around,
+        };
+        let read = view.new_span(&macros, number, edit)?;
         let Some(span) = read else {
             return Ok(None);
         };
-        let min = self.question.min;
-        let made = span_edit(alloc, &asked, min, &self.found, &span, edit, around)?;
+        let made = view.span_edit(&span, edit)?;
         Ok(made)
     }
 

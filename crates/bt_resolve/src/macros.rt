@@ -42,20 +42,19 @@ impl Reader<'_> {
     /// Reads a string: its macro is defined, unless the item has a fault.
     pub fn string(
         &self,
-        item: &Item,
         string: &Definition,
         macros: &mut ByName<MacroText>,
         messages: &mut Sequence<Message>,
     ) -> Result<(), AllocError>
         ensures macros { OnOk result (known macros.new ≡ with_string string.now.name
-            (faultless item.now.fault string.now.value) (known macros.old)) }
+            (faultless self.now.item.now.fault string.now.value) (known macros.old)) }
         ensures messages { OnOk result (messages.new ≡ messages.old
-            ++ messages_of_string self.now (known macros.old) item.now string.now) }
+            ++ messages_of_string self.now (known macros.old) string.now) }
     {
         let Some(name) = &string.name else {
             return Ok(());
         };
-        let Some(parts) = faultless(item, &string.value) else {
+        let Some(parts) = faultless(self.item, &string.value) else {
             return Ok(());
         };
         let name = name.as_slice();
@@ -65,25 +64,24 @@ impl Reader<'_> {
             own: Some(name),
             origin: self.origin,
         };
-        let value = reader.value(name, item.line, parts.as_slice(), messages)?;
+        let value = reader.value(name, self.item.line, parts.as_slice(), messages)?;
         macros.insert(self.alloc, name, MacroText::of_value(value)?)
     }
 
     /// Adds the messages of a string, but doesn't define its macro.
     pub fn tell_string(
         &self,
-        item: &Item,
         string: &Definition,
         macros: &ByName<MacroText>,
         messages: &mut Sequence<Message>,
     ) -> Result<(), AllocError>
         ensures { OnOk result (messages.new ≡ messages.old
-            ++ messages_of_string self.now (known macros.now) item.now string.now) }
+            ++ messages_of_string self.now (known macros.now) string.now) }
     {
         let Some(name) = &string.name else {
             return Ok(());
         };
-        let Some(parts) = faultless(item, &string.value) else {
+        let Some(parts) = faultless(self.item, &string.value) else {
             return Ok(());
         };
         let name = name.as_slice();
@@ -93,25 +91,24 @@ impl Reader<'_> {
             own: Some(name),
             origin: self.origin,
         };
-        let _value = reader.value(name, item.line, parts.as_slice(), messages)?;
+        let _value = reader.value(name, self.item.line, parts.as_slice(), messages)?;
         Ok(())
     }
 
     /// Reads a preamble: its value is appended to `preamble`, unless the item has a fault.
     pub fn preamble(
         &self,
-        item: &Item,
         parts: &Option<ValueParts>,
         macros: &ByName<MacroText>,
         preamble: &mut Bytes,
         messages: &mut Sequence<Message>,
     ) -> Result<(), AllocError>
         ensures preamble { OnOk result (preamble.new ≡ preamble.old ++ preamble_value (known macros.now)
-            (faultless item.now.fault parts.now)) }
+            (faultless self.now.item.now.fault parts.now)) }
         ensures messages { OnOk result (messages.new ≡ messages.old
-            ++ messages_of_preamble self.now (known macros.now) item.now parts.now) }
+            ++ messages_of_preamble self.now (known macros.now) parts.now) }
     {
-        let Some(parts) = faultless(item, parts) else {
+        let Some(parts) = faultless(self.item, parts) else {
             return Ok(());
         };
         let reader = ValueReader {
@@ -120,7 +117,7 @@ impl Reader<'_> {
             own: None,
             origin: self.origin,
         };
-        let value = reader.value(b"preamble", item.line, parts.as_slice(), messages)?;
+        let value = reader.value(b"preamble", self.item.line, parts.as_slice(), messages)?;
         preamble.append(value.as_slice())
     }
 }

@@ -3,31 +3,10 @@
 //! An item's lines are relative to its own `@`, so an edit above it leaves the item as it was read. Only a message
 //! needs the line in the database: the sum of the item's own line and the line in the item.
 
-ghost use Rattle.std.specs.Prelude.{◌≡◌, None};
-ghost use Rattle.bt_log.specs.declared.message.Place.TheVariants.{DatabaseLine};
+ghost use Rattle.std.specs.Prelude.{◌≡◌};
 ghost use Rattle.bt_resolve.specs.Warnings.{line_at};
 
-/// A line of a database.
-#[derive(Clone, Copy, PartialEq, Eq)]
-pub struct BibLine {
-    /// The number of the database, from 1.
-    pub database: usize,
-    /// The line, from 1.
-    pub line: u128,
-}
-
-impl BibLine {
-    /// The place of a message there.
-    pub fn of_message(self) -> bt_log::Place
-        ensures { result ≡ DatabaseLine self.database self.line None }
-    {
-        bt_log::Place::DatabaseLine {
-            database: self.database,
-            line: self.line,
-            byte: None,
-        }
-    }
-}
+use bt_log::Place;
 
 /// The place of an item, to which its lines are relative.
 #[derive(Clone, Copy, PartialEq, Eq)]
@@ -40,12 +19,13 @@ pub struct Origin {
 
 impl Origin {
     /// A line of the item.
-    pub fn place(self, line: usize) -> BibLine
+    pub fn place(self, line: usize) -> Place
         ensures { result ≡ line_at self line }
     {
-        BibLine {
+        Place::DatabaseLine {
             database: self.database,
             line: self.line as u128 + line as u128,
+            byte: None,
         }
     }
 }

@@ -17,14 +17,12 @@ use crate::databases::{nothing_read, read_texts};
 use crate::declared::{Cites, Declared, Macro};
 use crate::entry::Resolved;
 use crate::family::Family;
+use crate::kept::found_in;
 use crate::list::listed;
-use crate::reading::Reading;
-use crate::store::Store;
 use crate::view::{Seen, View};
 use bt_log::Message;
 use bt_text::{Bytes, Sequence, Shared};
 use std::alloc::{AllocError, Global};
-use std::mem;
 
 /// The list, once all is read: the entries that the style sees, and the list's messages after the others.
 pub fn resolve_list(
@@ -49,29 +47,6 @@ pub fn resolve_list(
     view.seen_of_list(places)
 }
 
-/// Moves the entries, the preamble and the messages out of `read`.
-fn resolve_read(
-    alloc: Global,
-    asked: &Asked<'_>,
-    min: u32,
-    read: &mut Reading,
-) -> Result<Resolved, AllocError>
-    requires { IfSome asked.now.star (λ before. before ≤ length asked.now.keys) }
-    ensures { IfOk result (λ all. all
-        ≡ resolved_of asked.now min read.old.store read.old.preamble read.old.messages) }
-{
-    let store = mem::replace(&mut read.store, Store::new(alloc));
-    let family = Family::new(alloc, store)?;
-    let Seen { entries, .. } = resolve_list(alloc, asked, min, &family, &mut read.messages)?;
-    let preamble = mem::replace(&mut read.preamble, Bytes::new(alloc));
-    let messages = mem::replace(&mut read.messages, Sequence::new(alloc));
-    Ok(Resolved {
-        entries,
-        preamble: Shared::new(alloc, preamble)?,
-        messages,
-    })
-}
-
 /// Reads the texts of databases, and resolves what is asked of them.
 fn resolve_texts(
     alloc: Global,
@@ -88,7 +63,8 @@ fn resolve_texts(
 {
     let mut read = nothing_read(alloc, macros)?;
     read_texts(alloc, asked, texts, &mut read)?;
-    resolve_read(alloc, asked, min, &mut read)
+    let found = found_in(alloc, asked, min, read, Sequence::new(alloc))?;
+    Ok(found.all)
 }
 
 /// The list of entries that a style sees, the preamble, and all messages, from the texts of the databases in their order.

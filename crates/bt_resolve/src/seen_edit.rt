@@ -3,14 +3,13 @@
 ghost use Rattle.std.specs.Prelude.{◌≡◌, length, IfOk, IfSome};
 ghost use Rattle.bt_resolve.specs.inner.Kept.{IsSeenEdit, IsWithin, other_entries, with_own, with_seen};
 
-use crate::asked::Asked;
 use crate::entry::Entry;
 use crate::heirs::{NewValues, heirs_of, stays_among};
-use crate::kept::Found;
+use crate::kept::EditView;
 use crate::stored::{FieldValues, Stored};
 use crate::view::View;
 use bt_text::{Sequence, Shared};
-use std::alloc::{AllocError, Global};
+use std::alloc::AllocError;
 
 /// The entries that are seen after an edit of one.
 #[derive(Drop)]
@@ -32,56 +31,48 @@ pub enum SeenEdit {
     Others(OtherEntries),
 }
 
-/// What is seen with new values of a stored entry.
-fn other_entries(
-    alloc: Global,
-    asked: &Asked<'_>,
-    min: u32,
-    found: &Found,
-    own: NewValues,
-) -> Result<OtherEntries, AllocError>
-    ensures { IfOk result (λ others. others ≡ other_entries asked.now min found.now own) }
-{
-    let family = &found.store;
-    let list = found.listed.as_slice();
-    let heirs = heirs_of(alloc, family, list, found.values.as_slice(), &own)?;
-    let view = View {
-        alloc,
-        asked,
-        min,
-        family,
-    };
-    let places = found.places.as_slice();
-    let entries = view.entries_after(&heirs, places, found.all.entries.as_slice())?;
-    let stays = stays_among(alloc, heirs.marks.as_slice(), places)?;
-    Ok(OtherEntries {
-        own,
-        entries,
-        stays,
-    })
-}
+impl EditView<'_, '_> {
+    /// What is seen with new values of a stored entry.
+    fn other_entries(&self, own: NewValues) -> Result<OtherEntries, AllocError>
+        ensures { IfOk result (λ others. others
+            ≡ other_entries self.now.asked.now self.now.min self.now.found.now own) }
+    {
+        let family = &self.found.store;
+        let list = self.found.listed.as_slice();
+        let heirs = heirs_of(self.alloc, family, list, self.found.values.as_slice(), &own)?;
+        let view = View {
+            alloc: self.alloc,
+            asked: self.asked,
+            min: self.min,
+            family,
+        };
+        let places = self.found.places.as_slice();
+        let entries = view.entries_after(&heirs, places, self.found.all.entries.as_slice())?;
+        let stays = stays_among(self.alloc, heirs.marks.as_slice(), places)?;
+        Ok(OtherEntries {
+            own,
+            entries,
+            stays,
+        })
+    }
 
-/// What becomes of the entries that are seen, if at most one stored entry replaces another of its skeleton, which is at
-/// this place. None if more than one are stored.
-pub fn seen_edit(
-    alloc: Global,
-    asked: &Asked<'_>,
-    min: u32,
-    place: usize,
-    found: &Found,
-    stored: &[Stored],
-) -> Result<Option<SeenEdit>, AllocError>
-    ensures { IfOk result (λ edit. IfSome edit (λ e. IsSeenEdit asked.now min place found.now stored.now e)) }
-{
-    if stored.len() == 0 {
-        return Ok(Some(SeenEdit::Same));
+    /// What becomes of the entries that are seen, if at most one stored entry replaces another of its skeleton. None if
+    /// more than one are stored.
+    pub fn seen_edit(&self, stored: &[Stored]) -> Result<Option<SeenEdit>, AllocError>
+        ensures { IfOk result (λ edit. IfSome edit (λ e. IsSeenEdit self.now.asked.now self.now.min
+            self.now.around.first.stored self.now.found.now stored.now e)) }
+    {
+        if stored.len() == 0 {
+            return Ok(Some(SeenEdit::Same));
+        }
+        if stored.len() > 1 {
+            return Ok(None);
+        }
+        let place = self.around.first.stored;
+        let values = stored[0].values.share()?;
+        let others = self.other_entries(NewValues { place, values })?;
+        Ok(Some(SeenEdit::Others(others)))
     }
-    if stored.len() > 1 {
-        return Ok(None);
-    }
-    let values = stored[0].values.share()?;
-    let others = other_entries(alloc, asked, min, found, NewValues { place, values })?;
-    Ok(Some(SeenEdit::Others(others)))
 }
 
 /// Puts the entries that are seen after an edit, and the new values.

@@ -32,19 +32,6 @@ fn is_missing(values: &FieldValues, place: usize) -> bool
     values.get(place).is_none()
 }
 
-fn with_value(
-    alloc: Global,
-    place: usize,
-    value: Option<Shared<Bytes>>,
-    values: &FieldValues,
-) -> Result<Shared<FieldValues>, AllocError>
-    ensures { IfOk result (λ all. all ≡ slice_set values.now place value) }
-{
-    let mut all = values.copied(alloc)?;
-    all.set(place, value)?;
-    Shared::new(alloc, all)
-}
-
 /// The values, with the value of `crossref` in its place. They are shared if nothing changes.
 pub fn put_crossref(
     alloc: Global,
@@ -55,8 +42,9 @@ pub fn put_crossref(
     ensures { IfOk result (λ all. all ≡ slice_set values place name) }
 {
     if name.is_none() && is_missing(&values, place) {
-        Ok(values)
-    } else {
-        with_value(alloc, place, name, &values)
+        return Ok(values);
     }
+    let mut all = values.copied(alloc)?;
+    all.set(place, name)?;
+    Shared::new(alloc, all)
 }

@@ -5,18 +5,21 @@
 //! are compared by their parts: equal parts have equal values, whatever the macros. Strings and preambles have to be
 //! equal, since they count for the macros of later items and for the text that `preamble$` pushes.
 
-ghost use Rattle.std.specs.Prelude.{◌≡◌, IsTrue, find, option_copied};
+ghost use Rattle.std.specs.Prelude.{◌≡◌, ◌≤◌, IsTrue, find, length, option_copied};
 ghost use Rattle.bt_text.specs.CaseFolding.{is_same_folded};
 ghost use Rattle.bt_resolve.specs.Names.{crossref};
 ghost use Rattle.bt_resolve.specs.Values.{MacroTexts, joined_parts};
 ghost use Rattle.bt_resolve.specs.inner.Cases.{part_text};
 ghost use Rattle.bt_bib.specs.declared.item.Field.{Field as FieldSeen};
-ghost use Rattle.bt_resolve.specs.Skeletons.{HaveOneSkeleton, IsItemLike, IsLike, PairOff, is_entry};
+ghost use Rattle.bt_resolve.specs.Skeletons.{HaveOneSkeleton, IsItemLike, IsLike, is_entry};
+ghost use Rattle.bt_resolve.specs.inner.Kept.{IsShort};
 ghost use Rattle.bt_resolve.specs.inner.Skeletons.{IsPieceLike, text_in};
 
 use crate::entries::kind_of;
 use crate::fields::CROSSREF;
-use bt_bib::{Content, Definition, Entry, Field, Item, Part, Piece, PlacedPiece, ValueParts};
+use bt_bib::{
+    Content, Definition, Entry, Field, Item, ItemsEdit, Part, Piece, PlacedPiece, ValueParts,
+};
 use bt_text::{Bytes, Shared, eq_ignore_ascii_case, equal_bytes};
 
 /// Whether two parts are the same, whatever their lines.
@@ -151,7 +154,7 @@ fn is_like(old: &Content, new: &Content) -> bool
     }
 }
 
-fn is_entry(content: &Content) -> bool
+pub fn is_entry(content: &Content) -> bool
     ensures { result ≡ is_entry content.now }
 {
     match content {
@@ -184,18 +187,20 @@ fn is_piece_like(old: &Piece, new: &Piece) -> bool
     }
 }
 
-/// Whether the pieces pair off: entries with entries of the same skeletons, anything else with its equal.
-pub fn pair_off(old: &[PlacedPiece], new: &[PlacedPiece]) -> bool
-    ensures { IsTrue result → PairOff old.now new.now }
+/// Whether an edit replaces at most one piece: an entry by one of the same skeleton, anything else by its equal.
+pub fn is_short(old: &[PlacedPiece], edit: &ItemsEdit) -> bool
+    requires order { edit.now.before ≤ edit.now.upto }
+    requires inside { edit.now.upto ≤ length old.now }
+    ensures { IsTrue result → IsShort old.now edit.now }
 {
-    if old.len() != new.len() {
+    let new = edit.new.pieces();
+    let span = &old[edit.before..edit.upto];
+    if new.len() > 1 || span.len() != new.len() {
         return false;
     }
-    'pieces: for k in 0..old.len() {
-        let (was, is) = (&old[k], &new[k]);
-        if !is_piece_like(&was.piece, &is.piece) {
-            return false;
-        }
+    if new.len() == 0 {
+        return true;
     }
-    true
+    let (was, is) = (&span[0], &new[0]);
+    is_piece_like(&was.piece, &is.piece)
 }

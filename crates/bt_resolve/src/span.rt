@@ -8,15 +8,15 @@ ghost use Rattle.std.specs.Prelude.{◌≡◌, ◌≤◌, ◌++◌, ◌∷◌, [
 ghost use Rattle.bt_bib.specs.Items.{items_of};
 ghost use Rattle.bt_text.specs.ByName.{known};
 ghost use Rattle.bt_text.specs.NameList.{are_apart};
-ghost use Rattle.bt_resolve.specs.inner.Spans.{is_entry_item, nothing, span_of, stored_if, tells, tells_of, told_if, with_content_by, with_item_by};
+ghost use Rattle.bt_resolve.specs.inner.Spans.{nothing, span_of, stored_if, tells, tells_of, told_if, with_content_by, with_item_by};
 
 use crate::asked::Asked;
-use crate::faults::tell_fault;
 use crate::macro_text::MacroText;
 use crate::place::Origin;
 use crate::reader::Reader;
+use crate::skeleton::is_entry;
 use crate::stored::Stored;
-use bt_bib::{Content, Entry, Item, Piece, PlacedPiece, Spot};
+use bt_bib::{Content, Entry, Piece, PlacedPiece};
 use bt_log::Message;
 use bt_text::{ByName, Bytes, Sequence};
 use std::alloc::{AllocError, Global};
@@ -56,7 +56,6 @@ impl Reader<'_> {
     fn entry_by(
         &self,
         is_stored: bool,
-        line: usize,
         entry: &Entry,
         macros: &ByName<MacroText>,
         span: &mut Span,
@@ -64,8 +63,8 @@ impl Reader<'_> {
         requires { IsTrue (are_apart self.now.asked.now.fields) }
         ensures stored { OnOk result (span.new.stored ≡ span.old.stored
             ++ stored_if self.now.asked.now (known macros.now) is_stored entry.now entry.now.key) }
-        ensures messages { OnOk result (span.new.messages ≡ span.old.messages
-            ++ told_if self.now.asked.now (known macros.now) is_stored self.now.origin line entry.now entry.now.key) }
+        ensures messages { OnOk result (span.new.messages ≡ span.old.messages ++ told_if self.now.asked.now
+            (known macros.now) is_stored self.now.origin self.now.item.now.line entry.now entry.now.key) }
     {
         let Some(key) = &entry.key else {
             return Ok(());
@@ -73,7 +72,7 @@ impl Reader<'_> {
         if !is_stored {
             return Ok(());
         }
-        let stored = self.stored(line, entry, key, macros, &mut span.messages)?;
+        let stored = self.stored(entry, key, macros, &mut span.messages)?;
         span.stored.push(stored)?;
         Ok(())
     }
@@ -81,22 +80,19 @@ impl Reader<'_> {
     fn content_by(
         &self,
         mark: Mark,
-        item: &Item,
         macros: &ByName<MacroText>,
         span: &mut Span,
     ) -> Result<(), AllocError>
         requires { IsTrue (are_apart self.now.asked.now.fields) }
-        ensures { OnOk result (span.new
-            ≡ with_content_by self.now.asked.now (known macros.now) mark self.now.origin item.now span.old) }
+        ensures { OnOk result (span.new ≡ with_content_by self.now.asked.now (known macros.now) mark
+            self.now.origin self.now.item.now span.old) }
     {
-        match &item.content {
-            Content::Entry(entry) => self.entry_by(mark.stored, item.line, entry, macros, span),
-            Content::Define(string) => {
-                self.tell_string(item, string, macros, &mut span.messages)
-            }
+        match &self.item.content {
+            Content::Entry(entry) => self.entry_by(mark.stored, entry, macros, span),
+            Content::Define(string) => self.tell_string(string, macros, &mut span.messages),
             Content::Preamble(parts) => {
                 let mut joined = Bytes::new(self.alloc);
-                self.preamble(item, parts, macros, &mut joined, &mut span.messages)
+                self.preamble(parts, macros, &mut joined, &mut span.messages)
             }
         }
     }
@@ -104,90 +100,73 @@ impl Reader<'_> {
     fn item_by(
         &self,
         mark: Mark,
-        item: &Item,
-        end: Spot,
         macros: &ByName<MacroText>,
         span: &mut Span,
     ) -> Result<(), AllocError>
         requires { IsTrue (are_apart self.now.asked.now.fields) }
-        ensures { OnOk result (span.new
-            ≡ with_item_by self.now.asked.now (known macros.now) mark self.now.origin end item.now span.old) }
+        ensures { OnOk result (span.new ≡ with_item_by self.now.asked.now (known macros.now) mark
+            self.now.origin self.now.end self.now.item.now span.old) }
     {
-        self.content_by(mark, item, macros, span)?;
-        tell_fault(
-            self.alloc,
-            self.origin.database,
-            end,
+        self.content_by(mark, macros, span)?;
+        self.tell_fault(&mut span.messages)
+    }
+}
+
+/// What the piece of an edit is read with.
+#[derive(Clone, Copy, Drop)]
+pub struct SpanReader<'a> {
+    pub alloc: Global,
+    pub asked: &'a Asked<'a>,
+    /// The macros before the piece.
+    pub macros: &'a ByName<MacroText>,
+    /// The number of its database, from 1.
+    pub database: usize,
+    /// What the piece gave that it replaces.
+    pub mark: Mark,
+}
+
+impl SpanReader<'_> {
+    fn piece(&self, piece: &PlacedPiece) -> Result<Option<Span>, AllocError>
+        requires { IsTrue (are_apart self.now.asked.now.fields) }
+        ensures told { IfOk result (λ read. IfSome read (λ span.
+            IsTrue (tells_of self.now.mark (items_of (piece.now ∷ []))))) }
+        ensures span { IfOk result (λ read. IfSome read (λ span. span ≡ span_of self.now.asked.now
+            (known self.now.macros.now) self.now.database self.now.mark (items_of (piece.now ∷ [])))) }
+    {
+        let mut span = nothing(self.alloc);
+        let Piece::Item(item) = &*piece.piece else {
+            return Ok(Some(span));
+        };
+        if is_entry(&item.content) && !tells(self.mark) {
+            return Ok(None);
+        }
+        let reader = Reader {
+            alloc: self.alloc,
+            asked: self.asked,
             item,
-            &mut span.messages,
-        )
+            origin: Origin {
+                database: self.database,
+                line: piece.start.line,
+            },
+            end: piece.end,
+        };
+        reader.item_by(self.mark, self.macros, &mut span)?;
+        Ok(Some(span))
     }
-}
 
-fn is_entry_item(item: &Item) -> bool
-    ensures { result ≡ is_entry_item item.now }
-{
-    match &item.content {
-        Content::Entry(_) => true,
-        Content::Define(_) => false,
-        Content::Preamble(_) => false,
+    /// Reads at most one piece. None if it is an entry and the mark doesn't show whether it is wanted.
+    pub fn span(&self, pieces: &[PlacedPiece]) -> Result<Option<Span>, AllocError>
+        requires few { length pieces.now ≤ 1 }
+        requires fields { IsTrue (are_apart self.now.asked.now.fields) }
+        ensures told { IfOk result (λ read. IfSome read (λ span.
+            IsTrue (tells_of self.now.mark (items_of pieces.now)))) }
+        ensures span { IfOk result (λ read. IfSome read (λ span. span ≡ span_of self.now.asked.now
+            (known self.now.macros.now) self.now.database self.now.mark (items_of pieces.now))) }
+    {
+        if pieces.len() == 0 {
+            return Ok(Some(nothing(self.alloc)));
+        }
+        let read = self.piece(&pieces[0])?;
+        Ok(read)
     }
-}
-
-/// Reads the piece that replaces one with this mark. None if it is an entry and the mark doesn't show whether it is
-/// wanted.
-fn piece_by(
-    alloc: Global,
-    asked: &Asked<'_>,
-    database: usize,
-    mark: Mark,
-    piece: &PlacedPiece,
-    macros: &ByName<MacroText>,
-) -> Result<Option<Span>, AllocError>
-    requires { IsTrue (are_apart asked.now.fields) }
-    ensures told { IfOk result (λ read. IfSome read (λ span. IsTrue (tells_of mark (items_of (piece.now ∷ []))))) }
-    ensures span { IfOk result (λ read. IfSome read (λ span. span
-        ≡ span_of asked.now (known macros.now) database mark (items_of (piece.now ∷ [])))) }
-{
-    let mut span = nothing(alloc);
-    let Piece::Item(item) = &*piece.piece else {
-        return Ok(Some(span));
-    };
-    if is_entry_item(item) && !tells(mark) {
-        return Ok(None);
-    }
-    let reader = Reader {
-        alloc,
-        asked: &*asked,
-        origin: Origin {
-            database,
-            line: piece.start.line,
-        },
-    };
-    reader.item_by(mark, item, piece.end, macros, &mut span)?;
-    Ok(Some(span))
-}
-
-/// Reads at most one piece of a database in the place of one with this mark. None if it is an entry and the mark doesn't
-/// show whether it is wanted.
-pub fn read_span(
-    alloc: Global,
-    asked: &Asked<'_>,
-    database: usize,
-    mark: Mark,
-    pieces: &[PlacedPiece],
-    macros: &ByName<MacroText>,
-) -> Result<Option<Span>, AllocError>
-    requires few { length pieces.now ≤ 1 }
-    requires fields { IsTrue (are_apart asked.now.fields) }
-    ensures told { IfOk result (λ read. IfSome read (λ span. IsTrue (tells_of mark (items_of pieces.now)))) }
-    ensures span { IfOk result (λ read. IfSome read (λ span. span
-        ≡ span_of asked.now (known macros.now) database mark (items_of pieces.now))) }
-{
-    if pieces.len() == 0 {
-        return Ok(Some(nothing(alloc)));
-    }
-    let piece = &pieces[0];
-    let read = piece_by(alloc, asked, database, mark, piece, macros)?;
-    Ok(read)
 }

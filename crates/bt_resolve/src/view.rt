@@ -6,7 +6,7 @@ ghost use Rattle.bt_resolve.specs.inner.Cases.{entry_at, with_crossref};
 ghost use Rattle.bt_resolve.specs.Names.{crossref, place_of_name};
 ghost use Rattle.bt_resolve.specs.Listed.{listed};
 ghost use Rattle.bt_resolve.specs.inner.Heirs.{entries_after, is_marked, made_at, made_if};
-ghost use Rattle.bt_resolve.specs.inner.Inheritance.{entries_at, seen_of, shown_among};
+ghost use Rattle.bt_resolve.specs.inner.Inheritance.{seen_of, shown_among};
 
 use crate::asked::Asked;
 use crate::entry::Entry;
@@ -155,38 +155,6 @@ impl View<'_> {
         Ok(shown)
     }
 
-    fn add_entry(
-        &self,
-        values: &[Shared<FieldValues>],
-        place: usize,
-        entries: &mut Sequence<Entry>,
-    ) -> Result<(), AllocError>
-        ensures { OnOk result (entries.new ≡ entries.old ++ entries_at self.now values.now (place ∷ [])) }
-    {
-        let values = shared_at(self.alloc, values, place)?;
-        match self.entry_at(values, place)? {
-            None => Ok(()),
-            Some(entry) => {
-                entries.push(entry)?;
-                Ok(())
-            }
-        }
-    }
-
-    fn entries_at(
-        &self,
-        values: &[Shared<FieldValues>],
-        places: &[usize],
-    ) -> Result<Sequence<Entry>, AllocError>
-        ensures { IfOk result (λ entries. entries ≡ entries_at self.now values.now places.now) }
-    {
-        let mut entries = Sequence::new(self.alloc);
-        'places: for place in places {
-            self.add_entry(values, *place, &mut entries)?;
-        }
-        Ok(entries)
-    }
-
     /// The entry at a place after an edit: made anew if it is an heir, and else the old one at an index.
     fn entry_after(
         &self,
@@ -233,7 +201,12 @@ impl View<'_> {
         let list = places.as_slice();
         all_inherit(self.alloc, self.family, list, &mut values)?;
         let shown = self.shown_among(list)?;
-        let entries = self.entries_at(values.as_slice(), shown.as_slice())?;
+        // Without marks, each entry is made anew.
+        let heirs = Heirs {
+            values: Sequence::from_vec(values),
+            marks: Sequence::new(self.alloc),
+        };
+        let entries = self.entries_after(&heirs, shown.as_slice(), &[])?;
         Ok(Seen {
             listed: Sequence::from_vec(places),
             places: shown,

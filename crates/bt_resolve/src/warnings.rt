@@ -4,19 +4,18 @@ ghost use Rattle.std.specs.Prelude.{◌≡◌, ◌++◌, Some, None, IfOk};
 ghost use Rattle.bt_text.specs.CaseFolding.{folded};
 ghost use Rattle.bt_resolve.specs.Warnings.{extra_field, no_function, own_macro, too_long, undefined_macro, warning_at};
 
-use crate::place::BibLine;
-use bt_log::{Message, Rank, Said};
+use bt_log::{Message, Place, Rank, Said};
 use bt_text::{Bytes, Shared, to_ascii_lowercase};
 use std::alloc::{AllocError, Global};
 
-fn warning_at(place: BibLine, words: Shared<Bytes>, entry: Option<Shared<Bytes>>) -> Message
+fn warning_at(place: Place, words: Shared<Bytes>, entry: Option<Shared<Bytes>>) -> Message
     ensures { result ≡ warning_at place words entry }
 {
     Message {
         rank: Rank::Warning,
         said: Said::Words(words),
         entry,
-        place: Some(place.of_message()),
+        place: Some(place),
         second: None,
     }
 }
@@ -24,7 +23,7 @@ fn warning_at(place: BibLine, words: Shared<Bytes>, entry: Option<Shared<Bytes>>
 /// A warning with these words around a name in lower case.
 fn naming(
     alloc: Global,
-    place: BibLine,
+    place: Place,
     before: &[u8],
     name: &[u8],
     after: &[u8],
@@ -38,7 +37,7 @@ fn naming(
 }
 
 /// The warning that a macro isn't defined.
-pub fn undefined_macro(alloc: Global, place: BibLine, name: &[u8]) -> Result<Message, AllocError>
+pub fn undefined_macro(alloc: Global, place: Place, name: &[u8]) -> Result<Message, AllocError>
     ensures { IfOk result (λ message. message ≡ undefined_macro place name.now) }
 {
     naming(
@@ -51,7 +50,7 @@ pub fn undefined_macro(alloc: Global, place: BibLine, name: &[u8]) -> Result<Mes
 }
 
 /// The warning that a macro is used in its own definition.
-pub fn own_macro(alloc: Global, place: BibLine, name: &[u8]) -> Result<Message, AllocError>
+pub fn own_macro(alloc: Global, place: Place, name: &[u8]) -> Result<Message, AllocError>
     ensures { IfOk result (λ message. message ≡ own_macro place name.now) }
 {
     let after = b"\" is used in its own definition";
@@ -59,7 +58,7 @@ pub fn own_macro(alloc: Global, place: BibLine, name: &[u8]) -> Result<Message, 
 }
 
 /// The warning that a value exceeds the limit.
-pub fn too_long(alloc: Global, place: BibLine, name: &[u8]) -> Result<Message, AllocError>
+pub fn too_long(alloc: Global, place: Place, name: &[u8]) -> Result<Message, AllocError>
     ensures { IfOk result (λ message. message ≡ too_long place name.now) }
 {
     let after = b"\" is over 65536 bytes";
@@ -68,7 +67,7 @@ pub fn too_long(alloc: Global, place: BibLine, name: &[u8]) -> Result<Message, A
 
 fn about(
     alloc: Global,
-    place: BibLine,
+    place: Place,
     key: &[u8],
     words: Shared<Bytes>,
 ) -> Result<Message, AllocError>
@@ -81,7 +80,7 @@ fn about(
 /// The warning that the entry of a key has a second field of this name.
 pub fn extra_field(
     alloc: Global,
-    place: BibLine,
+    place: Place,
     key: &[u8],
     name: &[u8],
 ) -> Result<Message, AllocError>
@@ -103,7 +102,7 @@ pub fn extra_field(
 }
 
 /// The warning that the entry of a key has a type without a function.
-pub fn no_function(alloc: Global, place: BibLine, key: &[u8]) -> Result<Message, AllocError>
+pub fn no_function(alloc: Global, place: Place, key: &[u8]) -> Result<Message, AllocError>
     ensures { IfOk result (λ message. message ≡ no_function place key.now) }
 {
     let words = Shared::<Bytes>::of(

@@ -19,23 +19,20 @@ use Rattle.bt_resolve.specs.laws.Laws.{KeysApart, EntriesApart}
 use Rattle.bt_resolve.specs.Resolved.{resolved, stored_entries}
 use Rattle.bt_resolve.proofs.FieldLemmas.{same_at, same_back, has_alike, some_zero, some_suc, before_suc, value_or, or_false, and_true}
 use Rattle.bt_resolve.proofs.laws.LawLemmas.{stored_apart}
+use Rattle.bt_resolve.proofs.ListLemmas.{same_some}
 
 -- ---- keys of stored entries at two places
 
-abbrev entry_or : Option Stored → Stored → Stored
-entry_or None s = s
-entry_or (Some t) s = t
-
 front_apart : (s : Stored) (ss : List Stored) → AllByRecursion (λ (t : Stored). is_same_folded s.key t.key ≡ false) ss → (q : ℕ) (t : Stored) → slice_get ss q ≡ Some t → is_same_folded s.key t.key ≡ false
 front_apart s [] h q t at = let wrong : let none : Option Stored = None in none ≡ Some t = at in cc
-front_apart s (u ∷ us) h zero t at = ap (λ (x : Stored). is_same_folded s.key x.key) (sym (ap (λ (o : Option Stored). entry_or o u) at)) ∙ h.0
+front_apart s (u ∷ us) h zero t at = ap (λ (x : Stored). is_same_folded s.key x.key) (sym (same_some u t at)) ∙ h.0
 front_apart s (u ∷ us) h (suc q) t at = front_apart s us h.1 q t at
 
 pair_apart : (ss : List Stored) → KeysApart ss → (p q : ℕ) → p ≢ q → (s t : Stored) → slice_get ss p ≡ Some s → slice_get ss q ≡ Some t → is_same_folded s.key t.key ≡ false
 pair_apart [] h p q ne s t sp tq = let wrong : let none : Option Stored = None in none ≡ Some s = sp in cc
 pair_apart (u ∷ us) h zero zero ne s t sp tq = absurd (ne refl)
-pair_apart (u ∷ us) h zero (suc q) ne s t sp tq = ap (λ (x : Stored). is_same_folded x.key t.key) (sym (ap (λ (o : Option Stored). entry_or o u) sp)) ∙ front_apart u us h.0 q t tq
-pair_apart (u ∷ us) h (suc p) zero ne s t sp tq = same_back s.key t.key ∙ ap (λ (x : Stored). is_same_folded x.key s.key) (sym (ap (λ (o : Option Stored). entry_or o u) tq)) ∙ front_apart u us h.0 p s sp
+pair_apart (u ∷ us) h zero (suc q) ne s t sp tq = ap (λ (x : Stored). is_same_folded x.key t.key) (sym (same_some u s sp)) ∙ front_apart u us h.0 q t tq
+pair_apart (u ∷ us) h (suc p) zero ne s t sp tq = same_back s.key t.key ∙ ap (λ (x : Stored). is_same_folded x.key s.key) (sym (same_some u t tq)) ∙ front_apart u us h.0 p s sp
 pair_apart (u ∷ us) h (suc p) (suc q) ne s t sp tq = pair_apart us h.1 p q (λ e. ne (ap (λ (n : ℕ). suc n) e)) s t sp tq
 
 -- ---- a key as it is spelled
@@ -195,7 +192,7 @@ one_place : (ss : List Stored) (k m : List ℕ) (p : ℕ) → place_of_key ss k 
 one_place ss k m p at_k at_m =
     let s = found_at ss k p at_k in
     let t = found_at ss m p at_m in
-    let same : s.0 ≡ t.0 = ap (λ (o : Option Stored). entry_or o s.0) (sym s.1.0 ∙ t.1.0) in
+    let same : s.0 ≡ t.0 = same_some s.0 t.0 (sym s.1.0 ∙ t.1.0) in
     let sm : is_same_folded s.0.key m ≡ true = ap (λ (x : Stored). is_same_folded x.key m) same ∙ t.1.1 in
     sym (same_at s.0.key m k sm) ∙ s.1.1
 

@@ -16,12 +16,12 @@ use Rattle.bt_bib.specs.declared.item.Part.TheVariants.{Text, Macro}
 use Rattle.bt_bib.specs.declared.spot.Spot.{Spot}
 use Rattle.bt_bib.specs.Items.{PlacedItem}
 use Rattle.bt_log.specs.declared.message.Message.{Message}
+use Rattle.bt_log.specs.declared.message.Place.{Place}
 use Rattle.bt_resolve.specs.declared.asked.Asked.{Asked}
 use Rattle.bt_resolve.specs.declared.declared.Cites.{Cites}
 use Rattle.bt_resolve.specs.declared.declared.Declared.{Declared}
 use Rattle.bt_resolve.specs.declared.declared.Macro.{Macro as StyleMacro}
 use Rattle.bt_resolve.specs.declared.entry.Entry.{Entry as SeenEntry}
-use Rattle.bt_resolve.specs.declared.place.BibLine.{BibLine}
 use Rattle.bt_resolve.specs.declared.place.Origin.{Origin}
 use Rattle.bt_resolve.specs.declared.stored.Stored.{Stored}
 use Rattle.bt_resolve.specs.Names.{crossref}
@@ -77,13 +77,13 @@ joined_or_empty None = []
 joined_or_empty (Some text) = white_joined text
 
 -- the warnings of a macro with this value, if it has one
-abbrev pub macro_warnings : Bool → Option (List ℕ) → BibLine → List ℕ → List Message
+abbrev pub macro_warnings : Bool → Option (List ℕ) → Place → List ℕ → List Message
 macro_warnings own text place name = elim text [
   | Some defined ↦ []
   | None ↦ if own then own_macro place name ∷ [] else undefined_macro place name ∷ []
 ]
 
-abbrev pub length_warnings : Option (List ℕ) → BibLine → List ℕ → List Message
+abbrev pub length_warnings : Option (List ℕ) → Place → List ℕ → List Message
 length_warnings joined place name = elim joined [ None ↦ too_long place name ∷ [] | Some text ↦ [] ]
 
 -- Faults
@@ -159,7 +159,7 @@ with_item a macros content stored = elim content [
   | contents.Preamble parts ↦ stored
 ]
 
-abbrev pub type_messages : Option ℕ → BibLine → List ℕ → List Message
+abbrev pub type_messages : Option ℕ → Place → List ℕ → List Message
 type_messages function place key = elim function [ None ↦ no_function place key ∷ [] | Some f ↦ [] ]
 
 abbrev pub key_messages : Asked → MacroTexts → List Stored → Origin → ℕ → Entry → Option (List ℕ) → List Message

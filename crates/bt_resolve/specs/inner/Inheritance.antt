@@ -1,7 +1,6 @@
 -- Entries inherit one after another, in the list of all current values.
-use Rattle.std.specs.Prelude.{ℕ, not, List, [], ◌∷◌, Option, Some, None, slice_set, map, filter, filter_map}
+use Rattle.std.specs.Prelude.{ℕ, not, List, [], ◌∷◌, Option, Some, None, slice_set, map, filter}
 use Rattle.std.specs.List.{slice_index_or}
-use Rattle.bt_resolve.specs.declared.entry.Entry.{Entry}
 use Rattle.bt_resolve.specs.declared.stored.Stored.{Stored}
 use Rattle.bt_resolve.specs.declared.asked.Asked.{Asked}
 use Rattle.bt_resolve.specs.declared.view.Seen.{Seen}
@@ -9,7 +8,7 @@ use Rattle.bt_resolve.specs.declared.view.View.{View}
 use Rattle.bt_resolve.specs.Listed.{listed}
 use Rattle.bt_resolve.specs.Inherited.{inherited, is_left_out, entries_seen}
 use Rattle.bt_resolve.specs.Skeletons.{shown}
-use Rattle.bt_resolve.specs.inner.Cases.{entry_at, parent_at}
+use Rattle.bt_resolve.specs.inner.Cases.{parent_at}
 
 abbrev pub inherits_from : Option ℕ → ℕ → List (List (Option (List ℕ))) → List (List (Option (List ℕ)))
 inherits_from None p values = values
@@ -30,15 +29,6 @@ values_read stored = map (λ (s : Stored). s.values) stored
 -- those of the places whose entries aren't left out
 abbrev pub shown_among : View → List ℕ → List ℕ
 shown_among v places = filter (λ p. not (is_left_out v.asked.now v.min v.family.now p)) places
-
--- the entries at these places as they are seen with the values in a list
-abbrev pub entries_at : View → List (List (Option (List ℕ))) → List ℕ → List Entry
-entries_at v values places =
-    filter_map (entry_at v.asked.now v.min v.family.now (λ q. slice_index_or values q [])) places
-
--- without those that are left out
-abbrev pub entries_with : View → List (List (Option (List ℕ))) → List ℕ → List Entry
-entries_with v values places = entries_at v values (shown_among v places)
 
 -- what the style sees, with its places
 abbrev pub seen_of : Asked → ℕ → List Stored → Seen

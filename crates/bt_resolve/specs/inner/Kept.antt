@@ -102,13 +102,13 @@ pub record IsPlace (q : Question) (number before : ℕ) : Type 0 where
   pub inside : before ≤ length pieces
 
 -- the macros before the items from such a place on
-abbrev pub macros_ahead : Question → ℕ → ℕ → List PlacedPiece → MacroTexts
-macros_ahead q number before ps =
+abbrev pub macros_before : Question → ℕ → ℕ → List PlacedPiece → MacroTexts
+macros_before q number before ps =
     macro_before q.declared.macros (reverse (items_of (take before ps)) ++ reverse (all_items (map items_of (take number q.databases))))
 
-abbrev pub AreAhead : Question → ℕ → ℕ → MacroTexts → Type 0
-AreAhead q number before macros =
-    (ps : List PlacedPiece) → slice_get q.databases number ≡ Some ps → macros ≡ macros_ahead q number before ps
+abbrev pub AreBefore : Question → ℕ → ℕ → MacroTexts → Type 0
+AreBefore q number before macros =
+    (ps : List PlacedPiece) → slice_get q.databases number ≡ Some ps → macros ≡ macros_before q number before ps
 
 abbrev pub replaced : List PlacedPiece → ItemsEdit → List PlacedPiece
 replaced old e = take (e.upto - e.before) (drop e.before old)

@@ -4,7 +4,6 @@ use Rattle.std.specs.List.{flat_map}
 use Rattle.bt_bib.specs.declared.item.Definition.{Definition}
 use Rattle.bt_bib.specs.declared.item.Entry.{Entry}
 use Rattle.bt_bib.specs.declared.item.Field.{Field}
-use Rattle.bt_bib.specs.declared.item.Item.{Item}
 use Rattle.bt_bib.specs.declared.item.Part.{Part}
 use Rattle.bt_log.specs.declared.message.Message.{Message}
 use Rattle.bt_text.specs.ByName.{known}
@@ -70,18 +69,16 @@ abbrev pub messages_of_given : Reader → MacroTexts → List ℕ → List Field
 messages_of_given r macros key fields =
     fields_messages r.asked.now.fields macros r.origin key [] fields
 
-abbrev pub messages_of_stored : Reader → MacroTexts → ℕ → Entry → List ℕ → List Message
-messages_of_stored r macros line e key =
-    stored_messages r.asked.now macros r.origin line e key
+abbrev pub messages_of_stored : Reader → MacroTexts → Entry → List ℕ → List Message
+messages_of_stored r macros e key = stored_messages r.asked.now macros r.origin r.item.now.line e key
 
-abbrev pub messages_of_entry : Reader → MacroTexts → List Stored → ℕ → Entry → List Message
-messages_of_entry r macros stored line e =
-    key_messages r.asked.now macros stored r.origin line e e.key
+abbrev pub messages_of_entry : Reader → MacroTexts → List Stored → Entry → List Message
+messages_of_entry r macros stored e = key_messages r.asked.now macros stored r.origin r.item.now.line e e.key
 
-abbrev pub messages_of_string : Reader → MacroTexts → Item → Definition → List Message
-messages_of_string r macros item d =
-    string_messages macros r.origin item.line d.name (faultless item.fault d.value)
+abbrev pub messages_of_string : Reader → MacroTexts → Definition → List Message
+messages_of_string r macros d =
+    string_messages macros r.origin r.item.now.line d.name (faultless r.item.now.fault d.value)
 
-abbrev pub messages_of_preamble : Reader → MacroTexts → Item → Option (List Part) → List Message
-messages_of_preamble r macros item parts =
-    preamble_messages macros r.origin item.line (faultless item.fault parts)
+abbrev pub messages_of_preamble : Reader → MacroTexts → Option (List Part) → List Message
+messages_of_preamble r macros parts =
+    preamble_messages macros r.origin r.item.now.line (faultless r.item.now.fault parts)

@@ -1,5 +1,5 @@
 -- What an item gives that replaces another. Of an entry, it must be known whether it is stored.
-use Rattle.std.specs.Prelude.{ℕ, ◌==◌, Bool, true, false, ◌||◌, not, List, [], ◌∷◌, ◌++◌, Option, Some, None, if◌then◌else◌}
+use Rattle.std.specs.Prelude.{ℕ, ◌==◌, Bool, true, ◌||◌, not, List, [], ◌∷◌, ◌++◌, Option, Some, None, if◌then◌else◌}
 use Rattle.bt_bib.specs.Items.{PlacedItem}
 use Rattle.bt_bib.specs.declared.item.Content.TheVariants as contents
 use Rattle.bt_bib.specs.declared.item.Entry.{Entry}
@@ -15,6 +15,7 @@ use Rattle.bt_resolve.specs.Values.{MacroTexts}
 use Rattle.bt_resolve.specs.Stored.{stored_of}
 use Rattle.bt_resolve.specs.Messages.{stored_messages}
 use Rattle.bt_resolve.specs.Macros.{faultless}
+use Rattle.bt_resolve.specs.Skeletons.{is_entry}
 use Rattle.bt_resolve.specs.inner.Cases.{origin_of, fault_messages, preamble_messages, string_messages}
 
 -- A mark tells whether its entry is wanted: an entry that isn't stored is unwanted if it gave no message.
@@ -53,13 +54,6 @@ with_item_by a macros m origin end item s =
     let given = with_content_by a macros m origin item s in
     record given { messages = given.messages ++ fault_messages origin.database end item.content item.close item.fault }
 
-abbrev pub is_entry_item : Item → Bool
-is_entry_item item = elim item.content [
-  | contents.Entry e ↦ true
-  | contents.Define d ↦ false
-  | contents.Preamble parts ↦ false
-]
-
 -- what an item of a database gives, by the mark of the one that it replaces
 abbrev pub span_of : Asked → MacroTexts → ℕ → Mark → List PlacedItem → Span
 span_of a macros number m [] = nothing
@@ -68,4 +62,4 @@ span_of a macros number m (x ∷ items) = with_item_by a macros m (origin_of num
 -- if it is an entry, the mark tells whether it is wanted
 abbrev pub tells_of : Mark → List PlacedItem → Bool
 tells_of m [] = true
-tells_of m (x ∷ items) = not (is_entry_item x.item) || tells m
+tells_of m (x ∷ items) = not (is_entry x.item.content) || tells m

@@ -1,14 +1,14 @@
-use Rattle.std.proofs.Common.{refl, ◌∙◌, ◌+◌, ◌∷◌, List, ap, sym, map, drop}
+use Rattle.std.proofs.Common.{refl, ◌∙◌, ◌+◌, ◌∷◌, List, ap, sym, drop}
 use Rattle.std.proofs.lemmas.List.{drop_more, drop_all}
-use Rattle.bt_bib.specs.Items.{PlacedItem, items_of}
+use Rattle.bt_bib.specs.Items.{items_of}
 use Rattle.bt_bib.specs.declared.placed_pieces.PlacedPiece.{PlacedPiece}
-use Rattle.bt_resolve.specs.inner.Databases.{after_databases, after_items, state_of}
+use Rattle.bt_resolve.specs.inner.Databases.{after_items, state_of}
 use Rattle.bt_resolve.specs.inner.Reaches.{reaches}
-use Rattle.bt_resolve.proofs.ReadingLemmas.{databases_begun, databases_next, databases_done, map_both}
+use Rattle.bt_resolve.proofs.ReadingLemmas.{databases_begun, databases_next, databases_done}
 use Rattle.bt_resolve.proofs.databases.read_databases.Goals as goal
 
 pub databases-init : goal.databases-init
-databases-init c = databases_begun c.args.asked.now _ (map (λ d. d.now) c.args.databases.now) c.new-all.result c.new-all.ensures
+databases-init c = databases_begun c.args.asked.now _ c.args.databases.now c.new-all.result c.new-all.ensures
 
 pub databases-preserved : goal.databases-preserved
 databases-preserved c =
@@ -16,20 +16,18 @@ databases-preserved c =
     let ds = c.args.databases.now in
     let i = c.databases.i in
     let x = c.index-databases-i.result in
-    let here = ap (λ l. map (λ d. d.now) l) (drop_more ds i x c.databases-test.true ∙ ap (λ y. y ∷ drop (i + 1) ds) (sym c.index-databases-i.is)) in
-    databases_next a _ (map (λ d. d.now) ds) _ _ (i + 1) _ _ _ _ x.now _ _ here refl
-    (c.in_ok-reaches.ensures.reaches ∙ ap (λ (ps : List PlacedPiece). reaches a (i + 1) (state_of c.databases.reading) ps) c.pieces.ensures)
+    let here = drop_more ds i x c.databases-test.true ∙ ap (λ y. y ∷ drop (i + 1) ds) (sym c.index-databases-i.is) in
+    let pieces = c.pieces.ensures ∙ c.deref.ensures in
+    databases_next a _ ds _ _ (i + 1) _ _ _ _ x _ _ here refl
+    (c.in_ok-reaches.ensures.reaches ∙ ap (λ (ps : List PlacedPiece). reaches a (i + 1) (state_of c.databases.reading) ps) pieces)
     c.in_ok-push.ensures.ok
-    (c.in_ok-reaches.ensures.read ∙ ap (λ (ps : List PlacedPiece). after_items a (i + 1) (state_of c.databases.reading) (items_of ps)) c.pieces.ensures)
+    (c.in_ok-reaches.ensures.read ∙ ap (λ (ps : List PlacedPiece). after_items a (i + 1) (state_of c.databases.reading) (items_of ps)) pieces)
     c.databases.invariant
 
 pub returns-clause-read : goal.returns-clause-read
 returns-clause-read c =
-    let ds = c.args.databases.now in
-    (databases_done c.args.asked.now _ (map (λ d. d.now) ds) _ _ _ _ (ap (λ l. map (λ d. d.now) l) (drop_all c.databases.i ds c.databases-test.false)) c.databases.invariant).0
-    ∙ ap (λ (items : List (List PlacedItem)). after_databases c.args.asked.now 1 (state_of c.args.reading.now) items) (sym (map_both items_of (λ d. d.now) ds))
+    (databases_done c.args.asked.now _ c.args.databases.now _ _ _ _ (drop_all c.databases.i c.args.databases.now c.databases-test.false) c.databases.invariant).0
 
 pub returns-clause-reaches : goal.returns-clause-reaches
 returns-clause-reaches c =
-    let ds = c.args.databases.now in
-    (databases_done c.args.asked.now _ (map (λ d. d.now) ds) _ _ _ _ (ap (λ l. map (λ d. d.now) l) (drop_all c.databases.i ds c.databases-test.false)) c.databases.invariant).1
+    (databases_done c.args.asked.now _ c.args.databases.now _ _ _ _ (drop_all c.databases.i c.args.databases.now c.databases-test.false) c.databases.invariant).1

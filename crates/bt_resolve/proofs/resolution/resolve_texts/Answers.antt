@@ -1,15 +1,14 @@
 use Rattle.std.proofs.Common.{◌∙◌, ap, map, List, ℕ}
 use Rattle.bt_bib.specs.BibText.{pieces_of}
 use Rattle.bt_bib.specs.Items.{items_of}
-use Rattle.bt_text.proofs.NameLemmas.{if_ok}
-use Rattle.bt_resolve.specs.declared.entry.Resolved.{Resolved}
 use Rattle.bt_resolve.specs.inner.Databases.{State, after_databases, resolved_of}
+use Rattle.bt_resolve.specs.declared.kept.Found.{Found}
 use Rattle.bt_resolve.proofs.resolution.resolve_texts.Goals as goal
 
 pub returns : goal.returns
 returns c =
     let a = c.args.asked.now in
     let databases = map (λ (text : List ℕ). items_of (pieces_of text)) c.args.texts.now in
-    if_ok _ _ c.resolve_read.result (λ (all : Resolved) is.
-    is ∙ ap (λ (s : State). resolved_of a c.args.min s.stored s.preamble s.messages)
-    (c.in_ok-read_texts.ensures ∙ ap (λ (s : State). after_databases a 1 s databases) c.in_ok-read.ensures)) c.resolve_read.ensures
+    ap (λ (f : Found). f.all) c.in_ok-found.ensures
+    ∙ ap (λ (s : State). resolved_of a c.args.min s.stored s.preamble s.messages)
+    (c.in_ok-read_texts.ensures ∙ ap (λ (s : State). after_databases a 1 s databases) c.in_ok-read.ensures)

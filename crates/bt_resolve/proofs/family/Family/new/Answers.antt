@@ -1,7 +1,8 @@
-use Rattle.std.proofs.Common.{◌∙◌, ap, ℕ, List, Option, count_by}
+use Rattle.std.proofs.Common.{◌∙◌, ap, ℕ, ◌+◌, List, Option, count_by}
 use Rattle.bt_resolve.specs.Listed.{parent_of}
 use Rattle.bt_resolve.specs.inner.Cases.{is_place}
-use Rattle.bt_resolve.proofs.FamilyLemmas.{count_map}
+use Rattle.std.proofs.lemmas.List.Folds.{fold-map}
+use Rattle.std.specs.Prelude.{cond}
 use Rattle.bt_resolve.proofs.family.Family.new.Goals as goal
 
 pub invariant_of-result : goal.invariant_of-result
@@ -10,5 +11,5 @@ invariant_of-result c = record {
   counts_known = λ p.
       c.in_ok-counts.ensures p
       ∙ ap (λ (parents : List (Option ℕ)). count_by (is_place p) parents) (c.as_slice.ensures.value ∙ c.in_ok-parents.ensures)
-      ∙ count_map (is_place p) (parent_of c.args.store) c.args.store;
+      ∙ fold-map (λ (n : ℕ) (o : Option ℕ). n + cond (is_place p o) 1 0) (parent_of c.args.store) 0 c.args.store;
 }

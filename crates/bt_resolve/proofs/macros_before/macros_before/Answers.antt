@@ -1,8 +1,8 @@
 use Rattle.std.proofs.Common.{map}
 use Rattle.bt_bib.specs.Items.{items_of}
 use Rattle.bt_resolve.specs.Resolved.{all_items}
-use Rattle.bt_resolve.proofs.AheadLemmas.{macros_are}
-use Rattle.bt_resolve.proofs.macros_ahead.macros_before.Goals as goal
+use Rattle.bt_resolve.proofs.BeforeLemmas.{macros_are}
+use Rattle.bt_resolve.proofs.macros_before.macros_before.Goals as goal
 
 pub returns : goal.returns
 returns c =

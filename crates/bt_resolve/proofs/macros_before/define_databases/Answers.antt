@@ -3,8 +3,8 @@ use Rattle.bt_bib.specs.Items.{items_of}
 use Rattle.bt_bib.specs.declared.placed_pieces.PlacedPiece.{PlacedPiece}
 use Rattle.bt_text.specs.ByName.{known}
 use Rattle.bt_resolve.specs.inner.Databases.{macros_after}
-use Rattle.bt_resolve.proofs.AheadLemmas.{databases_more}
-use Rattle.bt_resolve.proofs.macros_ahead.define_databases.Goals as goal
+use Rattle.bt_resolve.proofs.BeforeLemmas.{databases_more}
+use Rattle.bt_resolve.proofs.macros_before.define_databases.Goals as goal
 
 pub databases-preserved : goal.databases-preserved
 databases-preserved c =

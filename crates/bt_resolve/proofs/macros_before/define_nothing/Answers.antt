@@ -1,5 +1,5 @@
-use Rattle.bt_resolve.proofs.AheadLemmas.{nothing_at, nothing_end}
-use Rattle.bt_resolve.proofs.macros_ahead.define_nothing.Goals as goal
+use Rattle.bt_resolve.proofs.BeforeLemmas.{nothing_at, nothing_end}
+use Rattle.bt_resolve.proofs.macros_before.define_nothing.Goals as goal
 
 pub pieces-preserved : goal.pieces-preserved
 pieces-preserved c = λ rest.

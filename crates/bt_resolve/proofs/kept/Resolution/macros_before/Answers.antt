@@ -2,8 +2,8 @@ use Rattle.std.proofs.Common.{◌∙◌, ap, sym}
 use Rattle.std.proofs.lemmas.List.{length-take-le}
 use Rattle.bt_text.specs.ByName.{known}
 use Rattle.bt_text.proofs.NameLemmas.{if_ok}
-use Rattle.bt_resolve.proofs.KeptLemmas.{ahead_kept, ahead_made, place_is}
-use Rattle.bt_resolve.proofs.kept.Resolution.macros_ahead.Goals as goal
+use Rattle.bt_resolve.proofs.KeptLemmas.{before_kept, before_made, place_is}
+use Rattle.bt_resolve.proofs.kept.Resolution.macros_before.Goals as goal
 
 pub slice_bounds-databases-end : goal.slice_bounds-databases-end
 slice_bounds-databases-end c =
@@ -19,7 +19,7 @@ pub returns-then-have_no_strings : goal.returns-then-have_no_strings
 returns-then-have_no_strings c =
     let at = place_is c.self.inside.question c.args.self.now c.args.number c.args.before c.as_slice-databases.result.now c.index-databases-number.result c.pieces-pieces.result.now c.requires c.self.view_is c.as_slice-databases.ensures c.index-databases-number.is (c.pieces-pieces.ensures ∙ c.deref.ensures) in
     if_ok _ _ c.share.result
-    (λ macros is. ahead_kept c.self.inside.question c.args.self.now c.args.number c.args.before c.as_slice-databases.result.now c.pieces-pieces.result.now (known macros) c.self.view_is c.as_slice-databases.ensures at.0
+    (λ macros is. before_kept c.self.inside.question c.args.self.now c.args.number c.args.before c.as_slice-databases.result.now c.pieces-pieces.result.now (known macros) c.self.view_is c.as_slice-databases.ensures at.0
     (ap known is ∙ c.self.invariant.macros_known) (c.define_nothing.ensures c.if-define_nothing.true) (c.have_no_strings.ensures c.if-have_no_strings.true))
     c.share.ensures
 
@@ -27,5 +27,5 @@ pub returns : goal.returns
 returns c =
     let at = place_is c.self.inside.question c.args.self.now c.args.number c.args.before c.as_slice-databases.result.now c.index-databases-number.result c.pieces-pieces.result.now c.requires c.self.view_is c.as_slice-databases.ensures c.index-databases-number.is (c.pieces-pieces.ensures ∙ c.deref.ensures) in
     if_ok _ _ c.new.result
-    (λ macros is. ahead_made c.self.inside.question c.args.self.now c.args.number c.args.before c.as_slice-databases.result.now c.pieces-pieces.result.now c.as_slice-style.result.now (known macros) c.self.view_is c.as_slice-databases.ensures at.0 c.as_slice-style.ensures (ap known is ∙ c.in_ok-macros.ensures))
+    (λ macros is. before_made c.self.inside.question c.args.self.now c.args.number c.args.before c.as_slice-databases.result.now c.pieces-pieces.result.now c.as_slice-style.result.now (known macros) c.self.view_is c.as_slice-databases.ensures at.0 c.as_slice-style.ensures (ap known is ∙ c.in_ok-macros.ensures))
     c.new.ensures

@@ -2,8 +2,8 @@ use Rattle.std.proofs.Common.{◌∙◌, subst, List}
 use Rattle.bt_bib.specs.Items.{items_of}
 use Rattle.bt_bib.specs.declared.placed_pieces.PlacedPiece.{PlacedPiece}
 use Rattle.bt_resolve.specs.inner.Databases.{DefineNothing}
-use Rattle.bt_resolve.proofs.AheadLemmas.{all_nothing_at, all_nothing_end}
-use Rattle.bt_resolve.proofs.macros_ahead.have_no_strings.Goals as goal
+use Rattle.bt_resolve.proofs.BeforeLemmas.{all_nothing_at, all_nothing_end}
+use Rattle.bt_resolve.proofs.macros_before.have_no_strings.Goals as goal
 
 pub databases-preserved : goal.databases-preserved
 databases-preserved c = λ rest.

@@ -19,20 +19,21 @@ use crate::macro_text::MacroText;
 use crate::macros::style_macros;
 use crate::place::Origin;
 use crate::reader::Reader;
-use bt_bib::{Content, Item, Items, Piece, PlacedPiece};
+use bt_bib::{Content, Items, Piece, PlacedPiece};
 use bt_text::{ByName, Sequence, Shared};
 use std::alloc::{AllocError, Global};
 
 impl Reader<'_> {
-    /// Defines the macro of an item, if it is a string. Its messages aren't kept.
-    fn define(&self, item: &Item, macros: &mut ByName<MacroText>) -> Result<(), AllocError>
-        ensures { OnOk result (known macros.new ≡ with_content item.now.fault item.now.content (known macros.old)) }
+    /// Defines the macro of the item, if it is a string. Its messages aren't kept.
+    fn define(&self, macros: &mut ByName<MacroText>) -> Result<(), AllocError>
+        ensures { OnOk result (known macros.new
+            ≡ with_content self.now.item.now.fault self.now.item.now.content (known macros.old)) }
     {
-        match &item.content {
+        match &self.item.content {
             Content::Entry(_) => Ok(()),
             Content::Define(string) => {
                 let mut messages = Sequence::new(self.alloc);
-                self.string(item, string, macros, &mut messages)
+                self.string(string, macros, &mut messages)
             }
             Content::Preamble(_) => Ok(()),
         }
@@ -53,12 +54,14 @@ fn define_piece(
             let reader = Reader {
                 alloc,
                 asked: &*asked,
+                item,
                 origin: Origin {
                     database: 0,
                     line: piece.start.line,
                 },
+                end: piece.end,
             };
-            reader.define(item, macros)
+            reader.define(macros)
         }
     }
 }

@@ -1,13 +1,13 @@
 use Rattle.std.proofs.Common.{◌∙◌, subst, ℕ, List, Option}
 use Rattle.bt_resolve.specs.inner.Heirs.{AreHeirs, entries_made, heirs_of, is_marked, made_at, stays_among}
 use Rattle.bt_resolve.proofs.NeededLemmas.{made_of_same}
-use Rattle.bt_resolve.proofs.seen_edit.other_entries.Goals as goal
+use Rattle.bt_resolve.proofs.kept.EditView.other_entries.Goals as goal
 
 pub returns : goal.returns
 returns c =
-    let f = c.args.found.now in
-    let a = c.args.asked.now in
-    let min = c.args.min in
+    let f = c.args.self.now.found.now in
+    let a = c.args.self.now.asked.now in
+    let min = c.args.self.now.min in
     let heirs = c.in_ok-heirs.heirs in
     let right = heirs_of f.store f.listed f.values c.args.own in
     let are : AreHeirs f.store f.listed f.values c.args.own heirs =
