@@ -4,7 +4,6 @@ ghost use Rattle.std.specs.Prelude.{◌≡◌, Ok, IfOk, OnErr};
 
 use crate::edit::{Edit, Refusal};
 use crate::refusal::is_root_name;
-use crate::reread::NothingRead;
 use crate::state::State;
 use bt_job::{AuxTexts, read_citations};
 use bt_text::{Bytes, Sequence, Shared};
@@ -59,7 +58,10 @@ impl Draft {
         ensures refused { IsAnswer (applied (edit_of edit.entry) self.old) result }
         ensures err { OnErr result (self.new ≡ self.old) }
     {
-        let state = self.state.after(self.alloc, edit, &mut NothingRead)?;
+        if let Some(refusal) = self.state.refusal(edit, edit.bytes().len()) {
+            return Err(refusal);
+        }
+        let state = self.state.changed(self.alloc, edit)?;
         self.state = state;
         Ok(())
     }

@@ -8,7 +8,6 @@ mod edits;
 mod entry_lines;
 mod files;
 mod refusal;
-mod reread;
 mod session;
 mod snapshot;
 mod state;

@@ -1,16 +1,16 @@
 //! A session: it keeps the present state and what it means, and changes both by edits.
 
-ghost use Rattle.std.specs.Prelude.{◌≡◌, IfOk, IfErr, OnErr, Ok};
+ghost use Rattle.std.specs.Prelude.{◌≡◌, length, None, IfOk, IfErr, OnErr, Ok};
 ghost use Rattle.std.specs.Option.{option_map};
 
 use crate::draft::Draft;
 use crate::edit::{Edit, Refusal};
 use crate::entry_lines::entry_text;
-use crate::reread::Reread;
-use crate::state::State;
+use crate::state::{State, splice_of};
+use bt_bib::Splice;
 use bt_job::text_of;
 use bt_log::Message;
-use bt_run::{Kept, Readings, Report, Run, answers_after};
+use bt_run::{Kept, Report, Run, answers_after};
 use bt_text::Bytes;
 use std::alloc::{AllocError, Global};
 use std::marker::Model;
@@ -39,8 +39,8 @@ impl Model for Session {
 
 impl Session {
     ghost use Rattle.bibtex.specs.Present.{is_root_name, no_texts, shown, reported, EachOnce, Keeps};
-    ghost use Rattle.bibtex.specs.Edit.{edit_of};
-    ghost use Rattle.bibtex.specs.Applied.{applied, refusal_of, IsAnswer, IsNew};
+    ghost use Rattle.bibtex.specs.Edit.{edit_of, bytes_of, splice as splice_edit};
+    ghost use Rattle.bibtex.specs.Applied.{applied, changed, refusal_of, splice_refusal, IsAnswer, IsNew};
     ghost use Rattle.bt_job.specs.FileNames.{text_of};
     ghost use Rattle.bt_log.specs.Log.{log_bytes};
     ghost use Rattle.bt_run.specs.Meaning.{trace};
@@ -69,8 +69,7 @@ impl Session {
             first.texts.as_slice(),
             first.root.as_slice(),
             first.min,
-            &Kept::nothing(alloc),
-            Readings::nothing(alloc),
+            &mut Kept::nothing(alloc),
         )?;
         Ok(Session {
             alloc,
@@ -85,16 +84,6 @@ impl Session {
         ensures { result ≡ refusal_of (edit_of edit.entry) size self.now }
     {
         self.state.refusal(edit, size)
-    }
-
-    /// Moves what READ found before to these readings. An edit that fails leaves the session without it.
-    fn with_resolution(&mut self, readings: Readings) -> Readings
-        ensures { self.new ≡ self.old }
-    {
-        let mut readings = readings;
-        let kept = mem::replace(&mut self.run.readings.resolution, None);
-        drop(mem::replace(&mut readings.resolution, kept));
-        readings
     }
 
     /// Replaces the state and everything that it means, and returns the run's report.
@@ -112,23 +101,48 @@ impl Session {
     /// Goes to a state, using what was read before: everything that the state means is made beside what is kept, and then
     /// replaces it. Only the resolution isn't kept twice: the run edits it in place. After out of memory the session has
     /// none, which it may, because a resolution is only right about its own question.
-    fn go_to(&mut self, state: State, readings: Readings) -> Result<Report, Refusal>
+    fn go_to(&mut self, state: State) -> Result<Report, Refusal>
         requires { EachOnce state.texts }
         ensures ok { IfOk result (λ _. self.new ≡ state) }
         ensures report { IfOk result (λ report. report ≡ reported self.old self.new) }
         ensures refused { IfErr result (λ refusal. refusal ≡ Refusal.OutOfMemory) }
         ensures err { OnErr result (self.new ≡ self.old) }
     {
-        let readings = self.with_resolution(readings);
         let run = answers_after(
             self.alloc,
             state.texts.as_slice(),
             state.root.as_slice(),
             state.min,
-            &self.run.kept,
-            readings,
+            &mut self.run.kept,
         )?;
         Ok(self.replace(state, run))
+    }
+
+    /// The state after a splice that there is no reason to refuse. A database that it changes is read again where it can
+    /// have changed.
+    fn spliced(&mut self, name: &[u8], splice: Splice, bytes: &[u8]) -> Result<State, AllocError>
+        requires size { splice.inserted ≡ length bytes.now }
+        requires right { splice_refusal self.old.texts name.now splice.begin splice.end (length bytes.now) ≡ None }
+        ensures state { IfOk result (λ state.
+            state ≡ changed (splice_edit name.now splice.begin splice.end bytes.now) self.old) }
+        ensures same { self.new ≡ self.old }
+    {
+        let text = self.state.spliced_text(self.alloc, name, splice, bytes)?;
+        let old = self.state.text(name);
+        self.run.kept.splice(self.alloc, old, &text, splice)?;
+        self.state.with_text(self.alloc, name, text)
+    }
+
+    /// The state after an edit that there is no reason to refuse.
+    fn state_after(&mut self, edit: Edit<'_>) -> Result<State, AllocError>
+        requires { refusal_of (edit_of edit) (length (bytes_of (edit_of edit))) self.old ≡ None }
+        ensures state { IfOk result (λ state. state ≡ changed (edit_of edit.entry) self.old) }
+        ensures same { self.new ≡ self.old }
+    {
+        if let Edit::Splice(name, begin, end, bytes) = edit {
+            return self.spliced(name, splice_of(begin, end, bytes), bytes);
+        }
+        self.state.changed(self.alloc, edit)
     }
 
     /// Makes an edit and reports its work: how many steps ran and what they cost, and how many were reused from the run
@@ -139,10 +153,11 @@ impl Session {
         ensures refused { IsAnswer (applied (edit_of edit.entry) self.old) result }
         ensures err { OnErr result (self.new ≡ self.old) }
     {
-        let mut reread = Reread::of(&self.run.readings);
-        let state = self.state.after(self.alloc, edit, &mut reread)?;
-        let readings = reread.readings(self.alloc)?;
-        self.go_to(state, readings)
+        if let Some(refusal) = self.state.refusal(edit, edit.bytes().len()) {
+            return Err(refusal);
+        }
+        let state = self.state_after(edit)?;
+        self.go_to(state)
     }
 
     /// The bytes of the `.bbl` file.
@@ -203,11 +218,6 @@ impl Session {
         ensures { result.now.steps ≡ trace self.now.texts self.now.root self.now.min }
     {
         &self.run.kept
-    }
-
-    /// What the texts were read as.
-    pub fn readings(&self) -> &Readings {
-        &self.run.readings
     }
 
     /// The present text of a name, if there is one. Each name has one text.

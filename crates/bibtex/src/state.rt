@@ -1,13 +1,15 @@
 //! The present state, and the one after an edit.
 
-ghost use Rattle.std.specs.Prelude.{◌≡◌, length, Ok, None, IfOk};
-ghost use Rattle.bibtex.specs.Edit.{edit_of, bytes_of, splice};
-ghost use Rattle.bibtex.specs.Applied.{applied, changed, refusal_of, splice_refusal, IsAnswer};
+ghost use Rattle.std.specs.Prelude.{◌≡◌, length, None, IfOk};
+ghost use Rattle.bibtex.specs.Edit.{edit_of, bytes_of};
+ghost use Rattle.bt_bib.specs.Splice.{IsSplice};
+ghost use Rattle.bibtex.specs.Present.{with_text};
+ghost use Rattle.bibtex.specs.inner.Cases.{present_text, replaced};
+ghost use Rattle.bibtex.specs.Applied.{changed, refusal_of, splice_refusal};
 
 use crate::edit::{Edit, Refusal};
 use crate::files::{all_shared, replaced, with_text, without};
 use crate::refusal::{remove_refusal, root_refusal, splice_refusal, write_refusal};
-use crate::reread::Rereader;
 use bt_bib::Splice;
 use bt_job::{File, text_of};
 use bt_text::{Bytes, Sequence, Shared};
@@ -23,6 +25,13 @@ pub struct State {
 }
 
 impl State {
+    /// The present text of a name; the empty text where there is none.
+    pub fn text(&self, name: &[u8]) -> &[u8]
+        ensures { result.now ≡ present_text self.now.texts name.now }
+    {
+        text_of(self.texts.as_slice(), name).unwrap_or(b"")
+    }
+
     fn with_texts(&self, texts: Sequence<File>) -> Result<State, AllocError>
         ensures { IfOk result (λ state. state ≡ record self.now { texts = texts }) }
     {
@@ -47,52 +56,52 @@ impl State {
         }
     }
 
-    /// The state with other bytes in place of the bytes `start..end` of a text, which is re-read if it is known as a
-    /// database.
-    #[tactic(auto, using(crate::proofs::SessionLemmas::replaced_is_splice))]
-    fn spliced<R: Rereader>(
+    /// The state with this text under this name.
+    pub fn with_text(
         &self,
         alloc: Global,
         name: &[u8],
-        start: usize,
-        end: usize,
-        bytes: &[u8],
-        reread: &mut R,
+        text: Shared<Bytes>,
     ) -> Result<State, AllocError>
-        requires right { splice_refusal self.now.texts name.now start end (length bytes.now) ≡ None }
-        ensures { IfOk result (λ state. state ≡ changed (splice name.now start end bytes.now) self.now) }
+        ensures { IfOk result (λ state. state ≡ record self.now { texts = with_text name.now text self.now.texts }) }
     {
-        let files = self.texts.as_slice();
-        let old = text_of(files, name).unwrap_or(b"");
-        let text = Shared::new(alloc, replaced(alloc, old, start, end, bytes)?)?;
-        let splice = Splice {
-            begin: start,
-            end,
-            inserted: bytes.len(),
-        };
-        reread.splice(alloc, old, &text, splice)?;
-        self.with_texts(with_text(alloc, files, name, text)?)
+        self.with_texts(with_text(alloc, self.texts.as_slice(), name, text)?)
     }
 
-    /// The state after an edit that there is no reason to refuse.
-    fn changed<R: Rereader>(
+    /// The text of a name after a splice that brings these bytes.
+    #[tactic(auto, using(crate::proofs::SessionLemmas::replaced_is_splice))]
+    pub fn spliced_text(
         &self,
         alloc: Global,
-        edit: Edit<'_>,
-        reread: &mut R,
-    ) -> Result<State, AllocError>
+        name: &[u8],
+        splice: Splice,
+        bytes: &[u8],
+    ) -> Result<Shared<Bytes>, AllocError>
+        requires right { splice_refusal self.now.texts name.now splice.begin splice.end (length bytes.now) ≡ None }
+        ensures text { IfOk result (λ text.
+            text ≡ replaced splice.begin splice.end bytes.now (present_text self.now.texts name.now)) }
+        ensures splice { IfOk result (λ text.
+            IsSplice (present_text self.now.texts name.now) text splice.begin splice.end (length bytes.now)) }
+    {
+        let text = replaced(alloc, self.text(name), splice.begin, splice.end, bytes)?;
+        Shared::new(alloc, text)
+    }
+
+    /// The state after an edit that there is no reason to refuse, made beside this one, with which it shares everything
+    /// that stays.
+    pub fn changed(&self, alloc: Global, edit: Edit<'_>) -> Result<State, AllocError>
         requires right { refusal_of (edit_of edit) (length (bytes_of (edit_of edit))) self.now ≡ None }
         ensures { IfOk result (λ state. state ≡ changed (edit_of edit.entry) self.now) }
     {
         let files = self.texts.as_slice();
         match edit {
             Edit::Write(name, text) => {
-                let text = Shared::<Bytes>::copied(alloc, text)?;
-                self.with_texts(with_text(alloc, files, name, text)?)
+                self.with_text(alloc, name, Shared::<Bytes>::copied(alloc, text)?)
             }
-            Edit::Splice(name, start, end, bytes) => {
-                self.spliced(alloc, name, start, end, bytes, reread)
-            },
+            Edit::Splice(name, begin, end, bytes) => {
+                let splice = splice_of(begin, end, bytes);
+                self.with_text(alloc, name, self.spliced_text(alloc, name, splice, bytes)?)
+            }
             Edit::Remove(name) => self.with_texts(without(alloc, files, name)?),
             Edit::Root(name) => Ok(State {
                 texts: all_shared(alloc, files)?,
@@ -106,21 +115,15 @@ impl State {
             }),
         }
     }
+}
 
-    /// The state after an edit, made beside this one, with which it shares everything that stays. Refusals are tested in
-    /// the order of their cases, out of memory last. A known database that is spliced is re-read.
-    pub fn after<R: Rereader>(
-        &self,
-        alloc: Global,
-        edit: Edit<'_>,
-        reread: &mut R,
-    ) -> Result<State, Refusal>
-        ensures ok { IfOk result (λ state. applied (edit_of edit.entry) self.now ≡ Ok state) }
-        ensures refused { IsAnswer (applied (edit_of edit.entry) self.now) result }
-    {
-        if let Some(refusal) = self.refusal(edit, edit.bytes().len()) {
-            return Err(refusal);
-        }
-        Ok(self.changed(alloc, edit, reread)?)
+/// The splice of an edit that brings these bytes.
+pub fn splice_of(begin: usize, end: usize, bytes: &[u8]) -> Splice
+    ensures { result ≡ record { begin = begin; end = end; inserted = length bytes.now } }
+{
+    Splice {
+        begin,
+        end,
+        inserted: bytes.len(),
     }
 }

@@ -15,7 +15,7 @@ use bt_bib::{AuxItem, Command, read_aux};
 use bt_files::{Names, all_put_back, is_own_name, written};
 use bt_job::{AuxTexts, File, file_name_of, read_citations};
 use bt_log::{log_bytes, terse_bytes};
-use bt_run::{Answers, Kept, Readings, Run, answers_after, run_once};
+use bt_run::{Answers, Kept, Run, answers_after, run_once};
 use bt_text::{Bytes, Sequence, Shared};
 use std::alloc::{AllocError, Global};
 
@@ -226,19 +226,15 @@ impl UnderNames {
 
     /// `drop` is called by name here, since it is proved for all types at once: a function in which `?` drops a run takes a
     /// minute to prove.
-    fn run_after(
-        &self,
-        alloc: Global,
-        min: u32,
-        kept: &Kept,
-        readings: Readings,
-    ) -> Result<Run, AllocError>
+    fn run_after(&self, alloc: Global, min: u32, kept: &mut Kept) -> Result<Run, AllocError>
         ensures meaning { IfOk result (λ run. meaning_of run.answers
             ≡ told_under self.now.names (meaning self.now.files self.now.root min)) }
         ensures steps { IfOk result (λ run. run.kept.steps ≡ trace self.now.files self.now.root min) }
+        ensures same_text { kept.new.text ≡ kept.old.text }
+        ensures same_steps { kept.new.steps ≡ kept.old.steps }
     {
         let (files, root) = (self.files.as_slice(), self.root.as_slice());
-        let mut run = answers_after(alloc, files, root, min, kept, readings)?;
+        let mut run = answers_after(alloc, files, root, min, kept)?;
         match put_names_back(alloc, &self.names, &mut run.answers) {
             Ok(()) => Ok(run),
             Err(error) => {
@@ -285,31 +281,26 @@ pub fn run_keeping_steps(
 ) -> Result<Run, AllocError>
     ensures { IfOk result (λ run. meaning_of run.answers ≡ job_meaning files.now root.now min) }
 {
-    let (kept, readings) = (Kept::nothing(alloc), Readings::nothing(alloc));
-    run_after(alloc, files, root, min, &kept, readings)
+    run_after(alloc, files, root, min, &mut Kept::nothing(alloc))
 }
 
-/// As `run_keeping_steps`, after a run that left `kept` and `readings`: a step that nothing new can reach isn't run, and a text
-/// that was read isn't read. What an earlier run left changes nothing of the result.
+/// As `run_keeping_steps`, after a run that left `kept`: a step that nothing new can reach isn't run, and a text that was read
+/// isn't read. What an earlier run left changes nothing of the result. What READ found is taken out of `kept`; its steps stay.
 #[tactic(auto, unfolding(crate::specs::Job::job_meaning, crate::specs::Job::job_trace))]
 pub fn run_after(
     alloc: Global,
     files: &[File],
     root: &[u8],
     min: u32,
-    kept: &Kept,
-    readings: Readings,
+    kept: &mut Kept,
 ) -> Result<Run, AllocError>
     ensures meaning { IfOk result (λ run. meaning_of run.answers ≡ job_meaning files.now root.now min) }
     ensures steps { IfOk result (λ run. run.kept.steps ≡ job_trace files.now root.now min) }
+    ensures same_text { kept.new.text ≡ kept.old.text }
+    ensures same_steps { kept.new.steps ≡ kept.old.steps }
 {
-    match UnderNames::of(alloc, files, root) {
-        Ok(under) => under.run_after(alloc, min, kept, readings),
-        Err(error) => {
-            drop(readings);
-            Err(error)
-        }
-    }
+    let under = UnderNames::of(alloc, files, root)?;
+    under.run_after(alloc, min, kept)
 }
 
 /// The names of the files that a run of the job looks for and doesn't find, in order, each once. Nothing is run. The only

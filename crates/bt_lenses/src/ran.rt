@@ -7,7 +7,7 @@ use bt_origins::{
     Explained, NamedText, Places, Sources, explain, is_source, places_of, style_named, text_named,
 };
 use bt_remarks::Lens;
-use bt_run::{Kept, Readings};
+use bt_run::Kept;
 use bt_style::{Style, StyleRefusal, read_style};
 use bt_text::{Bytes, Sequence};
 use bt_words::Program;
@@ -24,7 +24,6 @@ pub struct Ran<'a> {
     pub files: &'a [NamedText<'a>],
     pub messages: &'a [Message],
     pub kept: &'a Kept,
-    pub readings: &'a Readings,
     pub bbl: &'a [u8],
 }
 
@@ -81,8 +80,7 @@ fn ask_style<Q: Question>(
     question: &Q,
 ) -> Result<Option<Q::Answer>, AllocError> {
     let program = Program::of(ran.alloc, style, text)?;
-    let databases = ran.readings.databases.as_slice();
-    let places = places_of(ran.alloc, ran.files, ran.messages, databases)?;
+    let places = places_of(ran.alloc, ran.files, ran.messages, ran.kept)?;
     let styled = Styled {
         style,
         program: &program,

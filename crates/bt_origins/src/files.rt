@@ -2,7 +2,7 @@
 
 use crate::places::Places;
 use bt_log::{FileNote, Message, Said};
-use bt_run::{Database, database_of};
+use bt_run::Kept;
 use std::alloc::{AllocError, Global};
 
 /// A file of the job by the name that the run's messages have for it.
@@ -50,20 +50,20 @@ pub fn is_source(messages: &[Message], file: &[u8]) -> bool {
         || database_in(message) == Some(file))
 }
 
-/// The places of all entries in the databases, in the order in which the run read them.
+/// The places of all entries in the databases, in the order in which the run read them. `kept` is what is kept of the run.
 pub fn places_of<'a>(
     alloc: Global,
     files: &[NamedText<'a>],
     messages: &'a [Message],
-    databases: &'a [Database],
+    kept: &'a Kept,
 ) -> Result<Places<'a>, AllocError> {
     let mut places = Places::new(alloc);
     for message in messages {
         if let Some(name) = database_in(message)
             && let Some(text) = text_named(files, name)
-            && let Some(database) = database_of(databases, text)
+            && let Some(items) = kept.items_of(text)
         {
-            places.add(name, &*database.items)?;
+            places.add(name, &**items)?;
         }
     }
     Ok(places)

@@ -30,7 +30,6 @@ fn ran_of<'a>(alloc: Global, session: &'a AuthorSession, files: &'a [NamedText<'
         files,
         messages: session.messages(),
         kept: session.kept(),
-        readings: session.readings(),
         bbl: session.bbl(),
     }
 }

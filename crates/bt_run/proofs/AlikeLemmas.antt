@@ -1,5 +1,5 @@
 -- What is known of the entries that READ found.
-use Rattle.std.specs.Prelude.{slice_get, slice_set, IsTrue}
+use Rattle.std.specs.Prelude.{Bool, true, false, slice_get, slice_set, IsTrue}
 use Rattle.std.proofs.Common.{◌≡◌, refl, sym, ap, ◌∙◌, subst, ℕ, zero, suc, List, [], ◌∷◌, map, Option, Some, None}
 use Rattle.bt_style.specs.Program.{Program}
 use Rattle.bt_bib.specs.BibText.{pieces_of}
@@ -14,14 +14,13 @@ use Rattle.bt_resolve.specs.declared.kept.ResolvedEdit.{ResolvedEdit}
 use Rattle.bt_resolve.specs.inner.Kept.{IsResolvedEdit, IsSpared, resolved_for, with_database}
 use Rattle.bt_run.specs.declared.alike.Alike.{Alike}
 use Rattle.bt_run.specs.declared.alike.Alike.TheVariants as Alikes
-use Rattle.bt_run.specs.declared.asking.Asking.{Asking}
 use Rattle.bt_run.specs.declared.course.Course.{Course}
 use Rattle.bt_run.specs.declared.kept_resolution.KeptResolution.{KeptResolution}
 use Rattle.bt_run.specs.ReadCommand.{Job, found_for, read, with_blank_variables}
-use Rattle.bt_run.specs.inner.Alike.{AreAlike, AreAsked, AreFound, IsAlike, Stays, alike_after, found_at, found_fixed, is_known}
-use Rattle.bt_run.specs.inner.Asked.{question_for, question_of, with_databases}
+use Rattle.bt_run.specs.inner.Alike.{AreFound, IsAlike, Stays, alike_after, found_at, found_fixed, is_known}
+use Rattle.bt_run.specs.inner.Asked.{question_for, with_databases}
 use Rattle.bt_run.specs.inner.Earlier.{fixed, fixed_at}
-use Rattle.bt_run.specs.inner.Found.{IsAbout, IsKept}
+use Rattle.bt_run.specs.inner.Found.{AreFoundBy, IsKept}
 use Rattle.bt_run.proofs.FindingLemmas.{put_texts, resolved_is}
 
 -- an edit leaves the entries that it spares
@@ -65,22 +64,26 @@ read_found job number r back is = λ n.
     ∙ blank_fixed job.program (found_for job number).entries n
     ∙ ap (λ (all : Resolved). found_at all.entries n) (sym (resolved_is job number))
 
-pub asked_read : (a : Asking) (job : Job) (number : ℕ) (r back : Course) → question_of a ≡ question_for job number → back ≡ read job number r → AreAsked (Some a) back.entries
-asked_read a job number r back asks is = record {
-  found = λ b e.
-      let same : a ≡ b = cc in
-      subst (λ (q : Question). AreFound (resolved_for q) back.entries) (sym asks ∙ ap question_of same) (read_found job number r back is);
+pub found_read : (kept : Option KeptResolution) (job : Job) (number : ℕ) (r back : Course) → IsKept kept (question_for job number) → back ≡ read job number r → AreFoundBy true kept back.entries
+found_read None job number r back about is = absurd about
+found_read (Some kept) job number r back about is = record {
+  some = λ go. refl;
+  found = λ go k e.
+      let same : kept ≡ k = cc in
+      subst (λ (q : Question). AreFound (resolved_for q) back.entries) (sym about ∙ ap (λ (r : KeptResolution). r.resolution) same) (read_found job number r back is);
 }
 
 -- what is known of the entries of an earlier run
 
-pub earlier_alike : (asked : Option Asking) (entries : List Entry) (kept : Option KeptResolution) (alike : Alike) (is : Resolved) → AreAsked asked entries → IsAbout kept asked → ((was : Question) → IsKept kept was → IsAlike alike (resolved_for was) is) → AreAlike alike entries is
-earlier_alike None entries kept alike is found about known = absurd about
-earlier_alike (Some a) entries kept alike is found about known = λ n stays.
-    found.found a refl n ∙ known (question_of a) about n stays
+earlier_alike : (is_own : Bool) (kept : Option KeptResolution) (entries : List Entry) (alike : Alike) (is : Resolved) → AreFoundBy is_own kept entries → IsTrue is_own → ((was : Question) → IsKept kept was → IsAlike alike (resolved_for was) is) → (n : ℕ) → Stays alike n → fixed_at entries n ≡ found_at is.entries n
+earlier_alike is_own None entries alike is h own known = (let wrong : IsTrue false = h.some own in absurd cc)
+earlier_alike is_own (Some kept) entries alike is h own known = λ n stays. h.found own kept refl n ∙ known kept.resolution refl n stays
 
-pub alike_read : (alike : Alike) (entries : List Entry) (job : Job) (number : ℕ) (r back : Course) → AreAlike alike entries (resolved_for (question_for job number)) → back ≡ read job number r → (n : ℕ) → Stays alike n → fixed_at entries n ≡ fixed_at back.entries n
-alike_read alike entries job number r back known is = λ n stays. known n stays ∙ sym (read_found job number r back is n)
+pub stays_read : (is_earlier : Bool) (kept : Option KeptResolution) (entries : List Entry) (found alike : Alike) (job : Job) (number : ℕ) (r back : Course) → AreFoundBy is_earlier kept entries → ((was : Question) → IsKept kept was → IsAlike found (resolved_for was) (resolved_for (question_for job number))) → ((n : ℕ) → Stays alike n → IsTrue is_earlier × Stays found n) → back ≡ read job number r → (n : ℕ) → Stays alike n → fixed_at entries n ≡ fixed_at back.entries n
+stays_read is_earlier kept entries found alike job number r back h known both is = λ n stays.
+    let so = both n stays in
+    earlier_alike is_earlier kept entries found (resolved_for (question_for job number)) h so.0 known n so.1
+    ∙ sym (read_found job number r back is n)
 
 pub stays_known : (alike : Alike) (n : ℕ) → Stays alike n → IsTrue (is_known alike)
 stays_known Alikes.Unknown n stays = absurd stays

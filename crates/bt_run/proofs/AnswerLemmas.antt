@@ -17,7 +17,7 @@ use Rattle.bt_job.specs.Fit.{IsWithin, IsFit}
 use Rattle.bt_run.specs.declared.answers.Report.{Report}
 use Rattle.bt_run.specs.declared.course.Course.{Course}
 use Rattle.bt_run.specs.declared.course.Step.{Step}
-use Rattle.bt_run.specs.declared.earlier.Earlier.{Earlier}
+use Rattle.bt_run.specs.declared.kept.Kept.{Kept}
 use Rattle.bt_run.specs.declared.kept_steps.KeptSteps.{KeptSteps}
 use Rattle.bt_run.specs.declared.reuse.Reuse.{Reuse}
 use Rattle.bt_actions.specs.declared.entry.Entry.{Entry}
@@ -26,6 +26,7 @@ use Rattle.bt_run.specs.Course.{Recorded}
 use Rattle.bt_run.specs.inner.Course.{recorded}
 use Rattle.bt_run.proofs.CountLemmas.{counted_alike}
 use Rattle.bt_run.specs.Work.{total_cost, work_under, IsStep}
+use Rattle.bt_run.specs.inner.Found.{AreFoundBy}
 use Rattle.bt_run.specs.inner.Calls.{AreCalls}
 use Rattle.bt_run.specs.inner.Tags.{step_tag}
 use Rattle.bt_run.specs.inner.Work.{AreKept, IsBegun, IsConsistent}
@@ -33,7 +34,7 @@ use Rattle.bt_run.specs.Steps.{StepsAre, styled_work, work_after}
 use Rattle.bt_run.specs.inner.Steps.{run_shown, calls_in, steps_under, IsTaken}
 use Rattle.bt_run.specs.Kept.{named_text, style_text, run_work, report_after}
 use Rattle.bt_run.proofs.WorkLemmas.{work_none, work_first}
-use Rattle.bt_run.proofs.EarlierLemmas.{nothing_asked, nothing_placed, same_none}
+use Rattle.bt_run.proofs.EarlierLemmas.{nothing_found, nothing_placed, same_none}
 use Rattle.bt_run.proofs.TurnLemmas.{none_in_turn, none_left, calls_begun}
 use Rattle.bt_run.proofs.LinkLemmas.{none_linked, none_last}
 use Rattle.bt_run.specs.ReadCommand.{Job}
@@ -42,10 +43,10 @@ use Rattle.bt_run.specs.Counts.{calls_at, counts_told}
 use Rattle.bt_run.specs.Meaning.{run_begun, first_globals, style_run, run_of, Meaning, meaning, trace}
 use Rattle.bt_run.specs.inner.Cases.{job_for, fault_told, styled, run_with}
 
-pub begun_consistent : (p : Program) (earlier : Earlier) (w : World) (s : KeptSteps) (calls : Option (List ℕ)) → w.entries ≡ [] → IsBegun s → ForSome calls (AreCalls earlier.steps.now) → IsConsistent p earlier w (record s { calls = calls })
-begun_consistent p earlier w s calls empty h are =
+pub begun_consistent : (p : Program) (earlier : Kept) (w : World) (s : KeptSteps) (calls : Option (List ℕ)) → w.entries ≡ [] → IsBegun s → ForSome calls (AreCalls earlier.steps) → AreFoundBy s.is_earlier s.resolution earlier.entries → IsConsistent p earlier w (record s { calls = calls })
+begun_consistent p earlier w s calls empty h are before =
     let none = h.0 in
-    let work : work_under p earlier.steps.now s.steps ≡ [] = ap (work_under p earlier.steps.now) none ∙ work_none p earlier.steps.now in
+    let work : work_under p earlier.steps s.steps ≡ [] = ap (work_under p earlier.steps) none ∙ work_none p earlier.steps in
     let count : length s.steps ≡ 0 = ap length none in
     record {
       ran = h.3 ∙ ap length (sym work);
@@ -57,24 +58,25 @@ begun_consistent p earlier w s calls empty h are =
       indexed = rw h.6 (λ x e. absurd cc);
       counted = ap length h.1 ∙ sym count;
       placed = nothing_placed w.entries s.steps s.places none;
-      same = same_none earlier.entries.now w.entries s.same h.2;
+      same = same_none earlier.entries w.entries s.same h.2;
       tagged = h.7 ∙ sym (ap (map step_tag) none);
       in_turn = none_in_turn s.steps none;
       left = none_left s.steps w none;
       given = λ go. (let on : IsTrue false = subst (λ (b : Bool). IsTrue b) h.8 go in absurd cc);
-      called = calls_begun earlier.steps.now s.reuse.next s.steps calls h.9 none are;
-      found = rw h.11 (nothing_asked w.entries);
+      called = calls_begun earlier.steps s.reuse.next s.steps calls h.9 none are;
+      found = rw h.11 (nothing_found s.resolution w.entries);
+      found_before = before;
       spread = ap length h.12 ∙ sym count;
       linked = none_linked s.steps s.previous h.12;
       lasts = none_last w s.steps s.lasts h.13;
-      origins = none_last w earlier.steps.now s.origins h.14;
+      origins = none_last w earlier.steps s.origins h.14;
     }
 
 -- a run's end
-pub with_calls : (p : Program) (earlier : Earlier) (w : World) (s : KeptSteps) (calls : Option (List ℕ)) → IsConsistent p earlier w s → IsConsistent p earlier w (record s { all_calls = calls })
-with_calls p earlier w s calls h = record { ran = h.ran; ticks = h.ticks; fewer = h.fewer; bounded = h.bounded; steps = h.steps; known = h.known; indexed = h.indexed; counted = h.counted; placed = h.placed; same = h.same; tagged = h.tagged; in_turn = h.in_turn; left = h.left; given = h.given; called = h.called; found = h.found; spread = h.spread; linked = h.linked; lasts = h.lasts; origins = h.origins }
+pub with_calls : (p : Program) (earlier : Kept) (w : World) (s : KeptSteps) (calls : Option (List ℕ)) → IsConsistent p earlier w s → IsConsistent p earlier w (record s { all_calls = calls })
+with_calls p earlier w s calls h = record { ran = h.ran; ticks = h.ticks; fewer = h.fewer; bounded = h.bounded; steps = h.steps; known = h.known; indexed = h.indexed; counted = h.counted; placed = h.placed; same = h.same; tagged = h.tagged; in_turn = h.in_turn; left = h.left; given = h.given; called = h.called; found = h.found; found_before = h.found_before; spread = h.spread; linked = h.linked; lasts = h.lasts; origins = h.origins }
 
-pub kept_with : (p : Program) (earlier : Earlier) (w : World) (s : KeptSteps) (calls : List ℕ) → IsConsistent p earlier w s → AreCalls s.steps calls → AreKept w.entries (record s { all_calls = Some calls })
+pub kept_with : (p : Program) (earlier : Kept) (w : World) (s : KeptSteps) (calls : List ℕ) → IsConsistent p earlier w s → AreCalls s.steps calls → AreKept w.entries (record s { all_calls = Some calls })
 kept_with p earlier w s calls h are = record { placed = h.placed; tagged = h.tagged; in_turn = h.in_turn; called = λ c e. (let same : calls ≡ c = cc in subst (AreCalls s.steps) same are); found = h.found; linked = h.linked }
 
 -- What was carried out
@@ -109,7 +111,7 @@ begun_kept entries s h = record {
   tagged = h.7 ∙ sym (ap (map step_tag) h.0);
   in_turn = none_in_turn s.steps h.0;
   called = rw h.10 (λ c e. absurd cc);
-  found = rw h.11 (nothing_asked entries);
+  found = rw h.11 (nothing_found s.resolution entries);
   linked = none_linked s.steps s.previous h.12;
 }
 
@@ -130,7 +132,7 @@ true_steps p text steps read h = λ t q named again.
     let program : p ≡ q = cc in
     subst (λ (o : Program). All (IsStep o) steps) program h
 
-pub run_taken : (p : Program) (own : Option (List ℕ)) (before : List Step) (text : List ℕ) (earlier : Earlier) (w : World) (s : KeptSteps) → style_of text ≡ Ok p → earlier.steps.now ≡ steps_under own before text → IsConsistent p earlier w s → IsTaken own before (Some text) s.steps s.reuse
+pub run_taken : (p : Program) (own : Option (List ℕ)) (before : List Step) (text : List ℕ) (earlier : Kept) (w : World) (s : KeptSteps) → style_of text ≡ Ok p → earlier.steps ≡ steps_under own before text → IsConsistent p earlier w s → IsTaken own before (Some text) s.steps s.reuse
 run_taken p own before text earlier w s read is h =
     let work = ap (λ es. work_under p es s.steps) is ∙ work_read p own before text s.steps read in
     record {

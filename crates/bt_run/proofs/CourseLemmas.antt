@@ -17,14 +17,13 @@ use Rattle.bt_machine.specs.OwnEntry.{IsPlace, DependsOnInput, alone, cut, finis
 use Rattle.bt_run.specs.declared.course.Course.{Course}
 use Rattle.bt_run.specs.declared.course.Step.{Step}
 use Rattle.bt_run.specs.declared.course.CommandPlace.{CommandPlace}
-use Rattle.bt_run.specs.declared.earlier.Earlier.{Earlier}
+use Rattle.bt_run.specs.declared.kept.Kept.{Kept}
 use Rattle.bt_run.specs.declared.kept_steps.KeptSteps.{KeptSteps}
 use Rattle.bt_run.specs.Course.{Recorded, course_world, input_at, step_kept, left_by, stepped}
 use Rattle.bt_run.specs.inner.Cases.{all_told}
 use Rattle.bt_run.specs.inner.Course.{recorded, IsArranged, IsOrdered, lent, with_variables, variables_back, put_back}
 use Rattle.bt_run.specs.Work.{total_cost, work_under, IsStep, own_left}
-use Rattle.bt_run.specs.declared.asking.Asking.{Asking}
-use Rattle.bt_run.specs.inner.Alike.{AreAsked}
+use Rattle.bt_run.specs.inner.Found.{AreFoundBy}
 use Rattle.bt_run.specs.inner.Calls.{AreCallsFrom}
 use Rattle.bt_run.specs.inner.Earlier.{AreSame}
 use Rattle.bt_run.specs.inner.Tags.{step_tag}
@@ -32,7 +31,7 @@ use Rattle.bt_run.specs.inner.Turn.{IsGiven, IsSharedFrom}
 use Rattle.bt_run.specs.inner.Links.{at_entry, with_last}
 use Rattle.bt_run.specs.inner.Work.{IsNext, IsConsistent}
 use Rattle.bt_run.proofs.WorkLemmas.{work_append, work_fewer}
-use Rattle.bt_run.proofs.EarlierLemmas.{asked_back, same_back, placed_more}
+use Rattle.bt_run.proofs.EarlierLemmas.{found_back, same_back, placed_more}
 use Rattle.bt_run.proofs.TurnLemmas.{in_turn_more, left_more, given_next, tagged_more}
 use Rattle.bt_run.proofs.LinkLemmas.{linked_more, lasts_more, origins_more}
 
@@ -159,21 +158,20 @@ pub record AreMore (x : Option ℕ) (before next : KeptSteps) (shared : Bool) (l
   pub origins : l.origins ≡ with_last x l.origin next.origins
 
 -- a step keeps what a run keeps to
-pub consistent_behind : (p : Program) (earlier : Earlier) (site : CommandPlace) (t : Target) (x : Option ℕ) (r back : Course) (s : Step) (tag : ℕ) (shared : Bool) (before next : KeptSteps) (steps : List Step) (tags : List ℕ) (places : List (Option ℕ)) (calls : Option (List ℕ)) (links : Links) → IsConsistent p earlier (course_world r) before → IsPlace x (course_world r) → AreMore x before next shared links → s.input ≡ input_at t x (course_world r) → back ≡ put_back site x s.outcome r → next ≡ record before { reuse = next.reuse } → steps ≡ next.steps ++ s ∷ [] → tags ≡ next.tags ++ tag ∷ [] → places ≡ next.places ++ x ∷ [] → tag ≡ step_tag s → (IsTrue shared → IsSharedFrom earlier.steps.now s before.reuse.next next.reuse.next) → ((ss : List Step) → ForSome next.calls (AreCallsFrom earlier.steps.now before.reuse.next ss) → ForSome calls (AreCallsFrom earlier.steps.now next.reuse.next (ss ++ s ∷ []))) → IsNext p earlier.steps.now s before.reuse next.reuse → IsConsistent p earlier (course_world back) (record next { steps = steps; tags = tags; places = places; in_step = shared; calls = calls; previous = links.previous; lasts = links.lasts; origins = links.origins })
+pub consistent_behind : (p : Program) (earlier : Kept) (site : CommandPlace) (t : Target) (x : Option ℕ) (r back : Course) (s : Step) (tag : ℕ) (shared : Bool) (before next : KeptSteps) (steps : List Step) (tags : List ℕ) (places : List (Option ℕ)) (calls : Option (List ℕ)) (links : Links) → IsConsistent p earlier (course_world r) before → IsPlace x (course_world r) → AreMore x before next shared links → s.input ≡ input_at t x (course_world r) → back ≡ put_back site x s.outcome r → next ≡ record before { reuse = next.reuse } → steps ≡ next.steps ++ s ∷ [] → tags ≡ next.tags ++ tag ∷ [] → places ≡ next.places ++ x ∷ [] → tag ≡ step_tag s → (IsTrue shared → IsSharedFrom earlier.steps s before.reuse.next next.reuse.next) → ((ss : List Step) → ForSome next.calls (AreCallsFrom earlier.steps before.reuse.next ss) → ForSome calls (AreCallsFrom earlier.steps next.reuse.next (ss ++ s ∷ []))) → IsNext p earlier.steps s before.reuse next.reuse → IsConsistent p earlier (course_world back) (record next { steps = steps; tags = tags; places = places; in_step = shared; calls = calls; previous = links.previous; lasts = links.lasts; origins = links.origins })
 consistent_behind p earlier site t x r back s tag shared before next steps tags places calls links h placed joined is_input is_back is_rest are_steps are_tags are_places is_tag in_turn called is_next =
     let cost : Step → ℕ = λ (u : Step). u.cost in
-    let so_far = work_under p earlier.steps.now before.steps in
-    let more = work_under p earlier.steps.now (s ∷ []) in
-    let works = work_append p earlier.steps.now before.steps (s ∷ []) in
+    let so_far = work_under p earlier.steps before.steps in
+    let more = work_under p earlier.steps (s ∷ []) in
+    let works = work_append p earlier.steps before.steps (s ∷ []) in
     let own = ap (λ (i : Input). i.entry) is_input in
     let kept_steps : steps ≡ before.steps ++ s ∷ [] = are_steps ∙ ap (λ (k : KeptSteps). k.steps ++ s ∷ []) is_rest in
     let kept_tags : tags ≡ before.tags ++ tag ∷ [] = are_tags ∙ ap (λ (k : KeptSteps). k.tags ++ tag ∷ []) is_rest in
     let kept_places : places ≡ before.places ++ x ∷ [] = are_places ∙ ap (λ (k : KeptSteps). k.places ++ x ∷ []) is_rest in
     let kept_same = ap (λ (k : KeptSteps). k.same) is_rest in
     let kept_calls = ap (λ (k : KeptSteps). k.calls) is_rest in
-    let kept_asked = ap (λ (k : KeptSteps). k.asked) is_rest in
     let given : IsGiven (course_world r) s.input = record { globals = ap (λ (i : Input). i.globals) is_input; held = ap (λ (i : Input). i.held) is_input } in
-    let calls_now = called before.steps (subst (λ (o : Option (List ℕ)). ForSome o (AreCallsFrom earlier.steps.now before.reuse.next before.steps)) (sym kept_calls) h.called) in
+    let calls_now = called before.steps (subst (λ (o : Option (List ℕ)). ForSome o (AreCallsFrom earlier.steps before.reuse.next before.steps)) (sym kept_calls) h.called) in
     let w = course_world r in
     let v = course_world (put_back site x s.outcome r) in
     let kept_previous : links.previous ≡ before.previous ++ links.link ∷ [] = joined.previous ∙ ap (λ (k : KeptSteps). k.previous ++ links.link ∷ []) is_rest in
@@ -183,22 +181,23 @@ consistent_behind p earlier site t x r back s tag shared before next steps tags 
     rw (kept_places, kept_tags, kept_steps, kept_previous, kept_lasts, kept_origins, is_back) (record {
       ran = is_next.counted.ran ∙ ap (λ n. n + length more) h.ran ∙ sym (ap length works ∙ length-append so_far more);
       ticks = is_next.counted.ticks ∙ ap (λ n. n + total_cost more) h.ticks ∙ sym (ap total_cost works ∙ sum_by-append cost so_far more);
-      fewer = omega (arith, length-append before.steps (s ∷ []), h.fewer, is_next.counted.ran, work_fewer p earlier.steps.now (s ∷ []));
+      fewer = omega (arith, length-append before.steps (s ∷ []), h.fewer, is_next.counted.ran, work_fewer p earlier.steps (s ∷ []));
       bounded = omega (arith, length-append before.steps (s ∷ []), h.bounded, is_next.within);
       steps = all_behind (IsStep p) before.steps s h.steps is_next.step;
       known = is_next.known;
       indexed = is_next.indexed;
       counted = omega (arith, length-append before.steps (s ∷ []), length-append before.places (x ∷ []), h.counted);
       placed = placed_more r.entries before.steps before.places s x s.outcome.variables h.counted h.placed own;
-      same = subst (AreSame earlier.entries.now (variables_back x s.outcome.variables r.entries)) (sym kept_same) (same_back earlier.entries.now r.entries before.same x s.outcome.variables h.same);
+      same = subst (AreSame earlier.entries (variables_back x s.outcome.variables r.entries)) (sym kept_same) (same_back earlier.entries r.entries before.same x s.outcome.variables h.same);
       tagged = tagged_more before.steps before.tags s tag h.tagged is_tag;
       in_turn = in_turn_more before.steps (course_world r) s h.in_turn h.left given;
       left = left_more before.steps (course_world (put_back site x s.outcome r)) s (record { globals = refl; held = refl });
-      given = λ go. given_next earlier.steps.now (course_world (put_back site x s.outcome r)) s before.reuse.next next.reuse.next earlier.in_turn (in_turn go) (record { globals = refl; held = refl });
+      given = λ go. given_next earlier.steps (course_world (put_back site x s.outcome r)) s before.reuse.next next.reuse.next earlier.in_turn (in_turn go) (record { globals = refl; held = refl });
       called = calls_now;
-      found = subst (λ (o : Option Asking). AreAsked o (variables_back x s.outcome.variables r.entries)) (sym kept_asked) (asked_back before.asked r.entries x s.outcome.variables h.found);
+      found = subst (λ (k : KeptSteps). AreFoundBy k.is_own k.resolution (variables_back x s.outcome.variables r.entries)) (sym is_rest) (found_back before.is_own before.resolution r.entries x s.outcome.variables h.found);
+      found_before = subst (λ (k : KeptSteps). AreFoundBy k.is_earlier k.resolution earlier.entries) (sym is_rest) h.found_before;
       spread = omega (arith, length-append before.steps (s ∷ []), length-append before.previous (links.link ∷ []), h.spread);
       linked = linked_more w before.steps before.previous before.lasts s t x links.link h.spread h.linked h.lasts is_input known;
       lasts = lasts_more w v before.steps s t x before.lasts is_input placed refl refl h.lasts;
-      origins = origins_more w v earlier.steps.now s t x before.origins links.origin shared before.reuse.next next.reuse.next is_input placed refl refl joined.origin in_turn h.origins;
+      origins = origins_more w v earlier.steps s t x before.origins links.origin shared before.reuse.next next.reuse.next is_input placed refl refl joined.origin in_turn h.origins;
     })

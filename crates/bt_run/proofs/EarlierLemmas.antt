@@ -1,14 +1,14 @@
 -- What is known of entries without comparing them stays so from step to step.
-use Rattle.std.specs.Prelude.{slice_get, slice_index_or, slice_set, true, ◌⊎◌}
+use Rattle.std.specs.Prelude.{slice_get, slice_index_or, slice_set, true, false, IsTrue, ◌⊎◌}
 use Rattle.std.specs.Option.{option_map}
 use Rattle.std.proofs.Common.{◌≡◌, refl, sym, ap, ◌∙◌, inl, inr, ℕ, zero, suc, Bool, List, [], ◌∷◌, ◌++◌, length, map, Option, Some, None, arith}
 use Rattle.std.proofs.lemmas.Option.{slice_get_within, slice_get-map}
 use Rattle.bt_actions.specs.declared.entry.Entry.{Entry}
 use Rattle.bt_actions.specs.declared.entry.Variables.{Variables}
 use Rattle.bt_actions.specs.World.{no_entry, entry_in}
-use Rattle.bt_run.specs.declared.asking.Asking.{Asking}
 use Rattle.bt_run.specs.declared.course.Step.{Step}
-use Rattle.bt_run.specs.inner.Alike.{AreAsked}
+use Rattle.bt_run.specs.declared.kept_resolution.KeptResolution.{KeptResolution}
+use Rattle.bt_run.specs.inner.Found.{AreFoundBy}
 use Rattle.bt_run.specs.inner.Course.{with_variables, variables_back}
 use Rattle.bt_run.specs.inner.Earlier.{fixed, fixed_at, ArePlaced, AreSame}
 
@@ -32,12 +32,12 @@ fixed_back (Some m) v entries n = fixed_set entries m n (with_variables v (slice
 pub same_back : (others entries : List Entry) (same : List Bool) (x : Option ℕ) (v : Option Variables) → AreSame others entries same → AreSame others (variables_back x v entries) same
 same_back others entries same x v h = λ n e. h n e ∙ sym (fixed_back x v entries n)
 
-pub asked_back : (asked : Option Asking) (entries : List Entry) (x : Option ℕ) (v : Option Variables) → AreAsked asked entries → AreAsked asked (variables_back x v entries)
-asked_back asked entries x v h = record { found = λ a e n. fixed_back x v entries n ∙ h.found a e n }
+pub found_back : (is_own : Bool) (kept : Option KeptResolution) (entries : List Entry) (x : Option ℕ) (v : Option Variables) → AreFoundBy is_own kept entries → AreFoundBy is_own kept (variables_back x v entries)
+found_back is_own kept entries x v h = record { some = h.some; found = λ go k e n. fixed_back x v entries n ∙ h.found go k e n }
 
--- Of no question, all entries are what was asked.
-pub nothing_asked : (entries : List Entry) → AreAsked None entries
-nothing_asked entries = record { found = λ a e. absurd cc }
+-- Nothing was found in this run.
+pub nothing_found : (kept : Option KeptResolution) (entries : List Entry) → AreFoundBy false kept entries
+nothing_found kept entries = record { some = λ go. absurd cc; found = λ go. absurd cc }
 
 -- what stands in a list with one element more
 

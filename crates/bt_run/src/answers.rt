@@ -5,6 +5,7 @@ ghost use Rattle.std.specs.Option.{ForSome};
 ghost use Rattle.bt_style.specs.Program.{program_of};
 ghost use Rattle.bt_run.specs.inner.Course.{recorded, IsArranged, IsOrdered};
 ghost use Rattle.bt_run.specs.Course.{course_world};
+ghost use Rattle.bt_run.specs.inner.Found.{AreFoundBy};
 ghost use Rattle.bt_run.specs.inner.Work.{AreKept, IsBegun, IsConsistent};
 ghost use Rattle.bt_run.specs.Steps.{StepsAre};
 ghost use Rattle.bt_run.specs.inner.Steps.{IsTaken};
@@ -20,10 +21,9 @@ use crate::counts::tell_counts;
 use crate::course::{Course, Step};
 use crate::declarations::copied_texts;
 use crate::job::{Job, shared_text};
-use crate::kept::{Kept, earlier_under};
+use crate::kept::{Before, Kept};
 use crate::kept_steps::KeptSteps;
 use crate::known_calls::calls_of_all;
-use crate::readings::Readings;
 use crate::reuse::Reuse;
 use crate::start::{idle, shared_messages, with_fault};
 use bt_actions::Entry;
@@ -33,6 +33,7 @@ use bt_resolve::Cites;
 use bt_style::{StyleFault, StyleRefusal, fields_are_apart};
 use bt_text::{Bytes, Sequence, Shared};
 use std::alloc::{AllocError, Global};
+use std::mem;
 
 /// What a run shows.
 #[derive(Drop)]
@@ -103,16 +104,17 @@ fn carry_out_style(
     log: Sequence<Message>,
     steps: &mut KeptSteps,
 ) -> Result<Course, AllocError>
-    requires { IsBegun steps.old }
+    requires begun { IsBegun steps.old }
+    requires found { AreFoundBy steps.old.is_earlier steps.old.resolution job.earlier.now.entries }
     ensures run { IfOk result (λ course. recorded course steps.new.steps ≡ style_run (job_of job.entry) log) }
     ensures consistent { IfOk result (λ course.
-        IsConsistent (program_of job.entry.style.now) job.entry.earlier (course_world course) steps.new) }
+        IsConsistent (program_of job.entry.style.now) job.entry.earlier.now (course_world course) steps.new) }
     ensures ordered { IfOk result (λ course. IsOrdered course) }
     ensures kept { IfOk result (λ course. AreKept course.entries steps.new) }
 {
-    steps.calls = job.earlier.calls.copied();
+    steps.calls = job.earlier.calls;
     let mut course = run_style(alloc, job, log, steps)?;
-    let earlier = job.earlier.steps;
+    let earlier = job.earlier.steps.as_slice();
     let calls = calls_of_all(
         earlier,
         steps.reuse.next,
@@ -156,15 +158,16 @@ fn run_with(
     files: &[File],
     citations: &Citations,
     min: u32,
-    kept: &Kept,
+    before: Before<'_>,
     steps: &mut KeptSteps,
 ) -> Result<StyleRun, AllocError>
     requires begun { IsBegun steps.old }
+    requires found { AreFoundBy steps.old.is_earlier steps.old.resolution before.kept.now.entries }
     requires star { ForSome citations.now.star (λ before. before ≤ length citations.now.keys) }
     ensures run { IfOk result (λ r. recorded r.course steps.new.steps
         ≡ run_with files.now citations.now min citations.now.style) }
     ensures text { IfOk result (λ r. r.text ≡ named_text files.now citations.now.style) }
-    ensures taken { IfOk result (λ r. IsTaken kept.now.text kept.now.steps r.text steps.new.steps steps.new.reuse) }
+    ensures taken { IfOk result (λ r. IsTaken before.entry.kept.now.text before.entry.kept.now.steps r.text steps.new.steps steps.new.reuse) }
     ensures ordered { IfOk result (λ r. IsOrdered r.course) }
     ensures kept { IfOk result (λ r. AreKept r.course.entries steps.new) }
 {
@@ -180,7 +183,7 @@ fn run_with(
     let bytes = text.as_slice();
     match steps.readings.style(alloc, &text) {
         Ok(style) => {
-            let earlier = earlier_under(kept, bytes);
+            let earlier = steps.earlier_under(before, bytes);
             let job = Job {
                 files,
                 cites: &cites,
@@ -229,8 +232,6 @@ pub fn show(
 pub struct Run {
     pub answers: Answers,
     pub kept: Kept,
-    /// What was read of the files.
-    pub readings: Readings,
     pub report: Report,
 }
 
@@ -251,13 +252,14 @@ fn run_from(
     files: &[File],
     root: &[u8],
     min: u32,
-    kept: &Kept,
+    before: Before<'_>,
     steps: &mut KeptSteps,
 ) -> Result<Ran, AllocError>
-    requires { IsBegun steps.old }
+    requires begun { IsBegun steps.old }
+    requires found { AreFoundBy steps.old.is_earlier steps.old.resolution before.kept.now.entries }
     ensures shown { IfOk result (λ ran. meaning_of ran.answers ≡ meaning files.now root.now min) }
     ensures report { IfOk result (λ ran. ran.report
-        ≡ report_after kept.now.text kept.now.steps files.now root.now min) }
+        ≡ report_after before.entry.kept.now.text before.entry.kept.now.steps files.now root.now min) }
     ensures text { IfOk result (λ ran. ran.text ≡ style_text files.now root.now) }
     ensures steps { OnOk result (steps.new.steps ≡ trace files.now root.now min) }
     ensures true_steps { IfOk result (λ ran. StepsAre ran.text steps.new.steps) }
@@ -266,7 +268,7 @@ fn run_from(
 {
     let citations = steps.readings.aux_texts.citations(alloc, files, root)?;
     let wanted = copied_texts(alloc, citations.wanted.as_slice())?;
-    let ran = run_with(alloc, files, &citations, min, kept, steps)?;
+    let ran = run_with(alloc, files, &citations, min, before, steps)?;
     drop(citations);
     let StyleRun { course, text } = ran;
     let Course {
@@ -275,10 +277,11 @@ fn run_from(
         log,
         ..
     } = course;
-    let bbl = bbl_of(alloc, steps.steps.as_slice(), kept.written)?;
+    let bbl = bbl_of(alloc, steps.steps.as_slice(), before.kept.written)?;
     let answers = show(alloc, bbl, log, wanted)?;
     let report = Report::of(answers.status, steps.steps.as_slice(), &steps.reuse);
-    steps.readings.keep_present(alloc, files)?;
+    let aux_texts = steps.readings.aux_texts.present(alloc, files)?;
+    steps.readings.aux_texts = aux_texts;
     Ok(Ran {
         answers,
         report,
@@ -311,7 +314,8 @@ impl Ran {
             tags,
             previous,
             all_calls: calls,
-            asked,
+            resolution,
+            is_own,
             readings,
             ..
         } = steps;
@@ -324,13 +328,14 @@ impl Ran {
             tags,
             previous,
             calls,
-            asked,
+            resolution,
+            is_own,
             written: answers.bbl.len(),
+            readings,
         };
         Run {
             answers,
             kept,
-            readings,
             report,
         }
     }
@@ -338,25 +343,38 @@ impl Ran {
 
 /// What the files mean from this root (the name of its file without `.aux`), with this min-crossrefs. If the earlier
 /// run's style had the same text, its steps that agree are reused. All others run, and are reported. Texts that were
-/// read before aren't read again.
+/// read before aren't read again. What READ found before is taken out of `kept`, and is in the new run if there is one.
 pub fn answers_after(
     alloc: Global,
     files: &[File],
     root: &[u8],
     min: u32,
-    kept: &Kept,
-    readings: Readings,
+    kept: &mut Kept,
 ) -> Result<Run, AllocError>
     ensures shown { IfOk result (λ run. meaning_of run.answers ≡ meaning files.now root.now min) }
     ensures report { IfOk result (λ run. run.report
-        ≡ report_after kept.now.text kept.now.steps files.now root.now min) }
+        ≡ report_after kept.old.text kept.old.steps files.now root.now min) }
     ensures text { IfOk result (λ run. run.kept.text ≡ style_text files.now root.now) }
     ensures steps { IfOk result (λ run. run.kept.steps ≡ trace files.now root.now min) }
+    ensures same_text { kept.new.text ≡ kept.old.text }
+    ensures same_steps { kept.new.steps ≡ kept.old.steps }
 {
-    let mut steps = KeptSteps::begun(alloc, readings);
-    match run_from(alloc, files, root, min, kept, &mut steps) {
-        Ok(ran) => Ok(ran.with_steps(steps)),
+    let readings = kept.readings.share(alloc)?;
+    let is_earlier = mem::replace(&mut kept.is_own, false);
+    let resolution = kept.resolution.take();
+    let mut steps = KeptSteps::begun(alloc, readings, resolution, is_earlier);
+    let nothing = Kept::nothing(alloc);
+    let before = Before {
+        kept,
+        nothing: &nothing,
+    };
+    match run_from(alloc, files, root, min, before, &mut steps) {
+        Ok(ran) => {
+            drop(nothing);
+            Ok(ran.with_steps(steps))
+        }
         Err(error) => {
+            drop(nothing);
             drop(steps);
             Err(error)
         }

@@ -10,8 +10,8 @@ ghost use Rattle.bt_run.specs.Meaning.{first_globals, run_begun};
 ghost use Rattle.bt_run.specs.inner.JobView.{job_of, commands_of};
 
 use crate::course::{CommandPlace, Course};
-use crate::earlier::Earlier;
 use crate::job::Job;
+use crate::kept::Kept;
 use crate::recorder::Recorder;
 use crate::sort_command::sorted_places;
 use crate::start::{begin, first_globals};
@@ -25,7 +25,7 @@ use std::alloc::{AllocError, Global};
 /// mostly the new one, or nearly so.
 fn sorted_again(
     alloc: Global,
-    earlier: Earlier<'_>,
+    earlier: &Kept,
     course: &Course,
 ) -> Result<Sequence<usize>, AllocError>
     requires { IsOrdered course.now }

@@ -1,41 +1,28 @@
 //! Finds what READ asks: what is kept, an edit of it, or all anew.
 
-ghost use Rattle.std.specs.Prelude.{◌≡◌, ◌≤◌, length, option_copied, IfOk, IfSome, IsTrue, OnOk};
+ghost use Rattle.std.specs.Prelude.{◌≡◌, ◌≤◌, length, map, IfOk, IfSome, IsTrue, OnOk};
+ghost use Rattle.bt_bib.specs.BibText.{pieces_of};
 ghost use Rattle.bt_text.specs.NameList.{are_apart};
 ghost use Rattle.bt_resolve.specs.inner.Kept.{resolved_for};
 ghost use Rattle.bt_run.specs.inner.Asked.{question_of};
-ghost use Rattle.bt_run.specs.inner.Found.{IsAbout, IsKept};
+ghost use Rattle.bt_run.specs.inner.Found.{IsKept};
 ghost use Rattle.bt_resolve.specs.declared.question.Question.{Question};
 ghost use Rattle.bt_run.specs.inner.Alike.{IsAlike, is_known};
 
 use crate::alike::Alike;
 use crate::asking::Asking;
-use crate::database::{Database, DatabaseEdit};
 use crate::kept_resolution::KeptResolution;
+use bt_bib::{Items, read_bib};
 use bt_resolve::{Resolved, resolve};
-use bt_text::{Sequence, are_same};
+use bt_text::{Bytes, Sequence, Shared};
 use std::alloc::{AllocError, Global};
 
-/// Whether what is kept is about the question of an earlier run.
-pub fn is_about(kept: &Option<KeptResolution>, asked: Option<&Asking>) -> bool
-    ensures { IsTrue result → IsAbout kept.now (option_copied asked.entry) }
-{
-    match (kept, asked) {
-        (Some(kept), Some(asked)) => {
-            asked.is_like(kept.resolution.question())
-                && are_same(kept.texts.as_slice(), asked.texts.as_slice())
-        }
-        _ => false,
-    }
-}
-
-/// Makes what is kept answer the question, as it is or by the edit, and returns which entries stay. If it can't, it
+/// Makes what is kept answer the question, as it is or by an edit, and returns which entries stay. If it can't, it
 /// returns `Unknown`.
 fn keep_up(
     alloc: Global,
     kept: &mut Option<KeptResolution>,
     asking: &Asking,
-    edit: &Option<DatabaseEdit>,
 ) -> Result<Alike, AllocError>
     ensures kept { IfOk result (λ alike. IsTrue (is_known alike) → IsKept kept.new (question_of asking.now)) }
     ensures alike { IfOk result (λ alike. (was : Question) → IsKept kept.old was →
@@ -47,8 +34,38 @@ fn keep_up(
     if !asking.is_like(kept.resolution.question()) {
         return Ok(Alike::Unknown);
     }
-    let alike = kept.follow(alloc, asking.texts.as_slice(), edit)?;
+    let alike = kept.follow(alloc, asking.texts.as_slice())?;
     Ok(alike)
+}
+
+/// The items of a text: those that are known, or else it is read.
+fn items_of(
+    alloc: Global,
+    text: &[u8],
+    kept: &Option<KeptResolution>,
+) -> Result<Shared<Items>, AllocError>
+    ensures { IfOk result (λ items. items ≡ pieces_of text.now) }
+{
+    if let Some(kept) = kept
+        && let Some(items) = kept.items_of(text)
+    {
+        return items.share();
+    }
+    Shared::new(alloc, read_bib(alloc, text)?)
+}
+
+fn all_items(
+    alloc: Global,
+    texts: &[Shared<Bytes>],
+    kept: &Option<KeptResolution>,
+) -> Result<Sequence<Shared<Items>>, AllocError>
+    ensures { IfOk result (λ all. all ≡ map pieces_of texts.now) }
+{
+    let mut all = Sequence::new(alloc);
+    'texts: for text in texts {
+        all.push(items_of(alloc, text.as_slice(), kept)?)?;
+    }
+    Ok(all)
 }
 
 /// Finds all anew, and keeps it.
@@ -56,26 +73,23 @@ fn find_anew(
     alloc: Global,
     asking: Asking,
     kept: &mut Option<KeptResolution>,
-    databases: &mut Sequence<Database>,
 ) -> Result<(), AllocError>
     requires fields { IsTrue (are_apart asking.declared.fields) }
     requires star { IfSome asking.cites.star (λ before. before ≤ length asking.cites.keys) }
     ensures { OnOk result (IsKept kept.new (question_of asking)) }
 {
+    let databases = all_items(alloc, asking.texts.as_slice(), kept)?;
     drop(kept.take());
-    let found = KeptResolution::anew(alloc, asking, databases)?;
+    let found = KeptResolution::of(alloc, asking, databases)?;
     drop(kept.replace(found));
     Ok(())
 }
 
-/// Finds what is asked, and keeps it. Of the databases, those that weren't read before are read, and put after those
-/// that were. Returns which entries of what was kept stay.
+/// Finds what is asked, and keeps it. Returns which entries of what was kept stay.
 pub fn find(
     alloc: Global,
     asking: Asking,
     kept: &mut Option<KeptResolution>,
-    edit: &Option<DatabaseEdit>,
-    databases: &mut Sequence<Database>,
 ) -> Result<Alike, AllocError>
     requires fields { IsTrue (are_apart asking.declared.fields) }
     requires star { IfSome asking.cites.star (λ before. before ≤ length asking.cites.keys) }
@@ -83,11 +97,11 @@ pub fn find(
     ensures alike { IfOk result (λ alike. (was : Question) → IsKept kept.old was →
         IsAlike alike (resolved_for was) (resolved_for (question_of asking))) }
 {
-    let alike = keep_up(alloc, kept, &asking, edit)?;
+    let alike = keep_up(alloc, kept, &asking)?;
     if alike.is_known() {
         return Ok(alike);
     }
-    find_anew(alloc, asking, kept, databases)?;
+    find_anew(alloc, asking, kept)?;
     Ok(Alike::Unknown)
 }
 

@@ -7,7 +7,7 @@ ghost use Rattle.std.specs.Option.{ForSome};
 ghost use Rattle.bt_job.specs.FileNames.{text_of};
 ghost use Rattle.bt_text.specs.NameList.{are_apart};
 
-use crate::earlier::Earlier;
+use crate::kept::Kept;
 use bt_job::{File, owned_text_of};
 use bt_resolve::Cites;
 use bt_style::Style;
@@ -26,8 +26,8 @@ pub struct Job<'a> {
     pub name: &'a [u8],
     pub style: &'a Style,
     /// An earlier run under this style; one without steps where there was none.
-    pub earlier: Earlier<'a>,
-    ghost steps: { All (IsStep (program_of style.now)) earlier.steps.now },
+    pub earlier: &'a Kept,
+    ghost steps: { All (IsStep (program_of style.now)) earlier.now.steps },
     ghost fields_apart: { IsTrue (are_apart style.now.fields) },
     ghost star_within: { ForSome cites.now.star (λ before. before ≤ length cites.now.keys) },
 }

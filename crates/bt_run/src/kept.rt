@@ -1,27 +1,29 @@
-//! What is kept of an earlier run.
+//! What is kept of a run for the next one.
 
-ghost use Rattle.std.specs.Prelude.{◌≡◌, None, [], length, map};
+ghost use Rattle.std.specs.Prelude.{◌≡◌, None, [], length, map, IfSome};
+ghost use Rattle.bt_bib.specs.BibText.{pieces_of};
+ghost use Rattle.bt_bib.specs.Splice.{IsSplice};
 ghost use Rattle.bt_run.specs.Steps.{StepsAre};
 ghost use Rattle.bt_run.specs.inner.Course.{IsArranged};
 ghost use Rattle.bt_run.specs.inner.Earlier.{ArePlaced};
-ghost use Rattle.bt_run.specs.inner.Steps.{steps_under};
 ghost use Rattle.std.specs.Option.{ForSome};
 ghost use Rattle.bt_run.specs.inner.Tags.{step_tag};
 ghost use Rattle.bt_run.specs.inner.Turn.{AreInTurn};
 ghost use Rattle.bt_run.specs.inner.Links.{AreLinked};
 ghost use Rattle.bt_run.specs.inner.Calls.{AreCalls};
-ghost use Rattle.bt_run.specs.inner.Alike.{AreAsked};
+ghost use Rattle.bt_run.specs.inner.Found.{AreFoundBy};
 
-use crate::asking::Asking;
 use crate::counts::Calls;
 use crate::course::Step;
-use crate::earlier::Earlier;
+use crate::kept_resolution::KeptResolution;
+use crate::readings::Readings;
 use bt_actions::Entry;
+use bt_bib::{Items, Splice};
 use bt_text::{Bytes, Sequence, Shared};
-use std::alloc::Global;
+use std::alloc::{AllocError, Global};
 
-/// What is kept of an earlier run: the text of its style, if it had one, its steps with the places of their entries,
-/// and its entries.
+/// What is kept of a run: the text of its style, if it had one, its steps with the places of their entries, its entries,
+/// and what was read.
 #[derive(Drop)]
 pub struct Kept {
     pub text: Option<Shared<Bytes>>,
@@ -36,17 +38,21 @@ pub struct Kept {
     pub previous: Sequence<Option<usize>>,
     /// How often the steps called each built-in function, if known.
     pub calls: Option<Calls>,
-    /// What READ asked of the databases to find these entries, if known.
-    pub asked: Option<Asking>,
+    /// What READ found, in this run or an earlier one. The next run takes it.
+    pub resolution: Option<KeptResolution>,
+    /// Whether READ found it in this run.
+    pub is_own: bool,
     /// The length of its bibliography, for which the next run makes room.
     pub written: usize,
+    /// What was read of other files than databases.
+    pub readings: Readings,
     ghost true_steps: { StepsAre text steps },
     ghost placed: { ArePlaced entries steps places },
     ghost arranged: { IsArranged (length entries) order },
     ghost tagged: { tags ≡ map step_tag steps },
     ghost called: { ForSome calls (AreCalls steps) },
     ghost in_turn: { AreInTurn steps },
-    ghost found: { AreAsked asked entries },
+    ghost found: { AreFoundBy is_own resolution entries },
     ghost linked: { AreLinked steps previous },
 }
 
@@ -66,29 +72,58 @@ impl Kept {
             tags: Sequence::new(alloc),
             previous: Sequence::new(alloc),
             calls: None,
-            asked: None,
+            resolution: None,
+            is_own: false,
             written: 0,
+            readings: Readings::nothing(alloc),
+        }
+    }
+
+    /// The order at the end of the run, if it had as many entries as these.
+    pub fn order_for(&self, entries: &[Entry]) -> Option<&[usize]>
+        ensures { IfSome result (λ order. IsArranged (length entries.now) order.now) }
+    {
+        if self.entries.len() == entries.len() {
+            return Some(self.order.as_slice());
+        }
+        None
+    }
+
+    /// The items of a text, if READ found something in a database of this text.
+    pub fn items_of(&self, text: &[u8]) -> Option<&Shared<Items>>
+        ensures { IfSome result (λ items. items.now ≡ pieces_of text.now) }
+    {
+        match &self.resolution {
+            None => None,
+            Some(kept) => kept.items_of(text),
+        }
+    }
+
+    /// Takes note of a splice that made `text` of the text `old`. If `old` is the text of a database, the part that the
+    /// splice can have changed is read, so the next run needs to read no more. After out of memory nothing has changed.
+    pub fn splice(
+        &mut self,
+        alloc: Global,
+        old: &[u8],
+        text: &Shared<Bytes>,
+        splice: Splice,
+    ) -> Result<(), AllocError>
+        requires { IsSplice old.now text.now splice.begin splice.end splice.inserted }
+        ensures same_text { self.new.text ≡ self.old.text }
+        ensures same_steps { self.new.steps ≡ self.old.steps }
+    {
+        match &mut self.resolution {
+            None => Ok(()),
+            Some(kept) => kept.splice(alloc, old, text, splice),
         }
     }
 }
 
-/// What is kept of an earlier run, if it had a style of this text.
-pub fn earlier_under<'a>(kept: &'a Kept, text: &[u8]) -> Earlier<'a>
-    ensures { result.steps.now ≡ steps_under kept.now.text kept.now.steps text.now }
-{
-    if let Some(own) = &kept.text
-        && own.as_slice() == text
-    {
-        return Earlier {
-            steps: kept.steps.as_slice(),
-            places: kept.places.as_slice(),
-            entries: kept.entries.as_slice(),
-            order: kept.order.as_slice(),
-            tags: kept.tags.as_slice(),
-            previous: kept.previous.as_slice(),
-            calls: kept.calls.as_ref(),
-            asked: kept.asked.as_ref(),
-        };
-    }
-    Earlier::none()
+/// The run before, and nothing, which takes its place if that run had another style. (A function that makes nothing itself
+/// takes long to prove, because each of its exits drops it.)
+#[derive(Clone, Copy)]
+pub struct Before<'a> {
+    pub kept: &'a Kept,
+    pub nothing: &'a Kept,
+    ghost none: { nothing.now.steps ≡ [] },
 }

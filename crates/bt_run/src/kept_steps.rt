@@ -1,22 +1,25 @@
 //! The recorder of a session: it keeps each step, and reuses steps of the run before.
 
-ghost use Rattle.std.specs.Prelude.{◌≡◌, ◌<◌, true, Some, Contains, IfOk, IfSome, IsSome, IsTrue, OnOk, length, slice_get};
+ghost use Rattle.std.specs.Prelude.{◌≡◌, ◌<◌, [], true, Some, Contains, IfOk, IfSome, IsSome, IsTrue, OnOk, length, slice_get};
 ghost use Rattle.bt_style.specs.Program.{program_of};
 ghost use Rattle.bt_machine.specs.OwnEntry.{IsPlace};
 ghost use Rattle.bt_run.specs.Course.{course_world, input_at};
 ghost use Rattle.bt_run.specs.inner.Earlier.{AreSame, IsMarked};
+ghost use Rattle.bt_run.specs.inner.Found.{AreFoundBy};
+ghost use Rattle.bt_run.specs.inner.Steps.{steps_under};
 ghost use Rattle.bt_run.specs.inner.Tags.{step_tag};
 ghost use Rattle.bt_run.specs.inner.Turn.{IsGivenAt, IsSharedFrom};
 ghost use Rattle.bt_run.specs.inner.Links.{AreLast};
 ghost use Rattle.bt_run.specs.inner.Work.{IsBegun, IsConsistent, IsNext};
 
-use crate::asking::Asking;
+use crate::alike::same_entries;
 use crate::counts::Calls;
 use crate::course::{Course, Step};
-use crate::earlier::{no_numbers, same_entries};
 use crate::job::Job;
+use crate::kept::{Before, Kept};
+use crate::kept_resolution::KeptResolution;
 use crate::known_calls::{Turn, count_step};
-use crate::links::{is_linked, last_for, note_last, number_at};
+use crate::links::{is_linked, last_for, no_numbers, note_last, number_at};
 use crate::read_command::read;
 use crate::readings::Readings;
 use crate::recorder::Recorder;
@@ -71,10 +74,14 @@ pub struct KeptSteps {
     pub calls: Option<Calls>,
     /// How often all steps called each, which is known at the end of the run.
     pub all_calls: Option<Calls>,
-    /// What READ asked of the databases, if it was known then.
-    pub asked: Option<Asking>,
+    /// What READ found, in this run or an earlier one.
+    pub resolution: Option<KeptResolution>,
+    /// Whether READ found it in this run.
+    pub is_own: bool,
+    /// Whether READ found it in the earlier run.
+    pub is_earlier: bool,
     pub reuse: Reuse,
-    /// What was read, by earlier runs and this one.
+    /// What was read of other files than databases, by earlier runs and this one.
     pub readings: Readings,
 }
 
@@ -105,9 +112,17 @@ fn origin_of(turn: Turn) -> Option<usize>
 }
 
 impl KeptSteps {
-    /// No step, over what earlier runs have read.
-    pub fn begun(alloc: Global, readings: Readings) -> KeptSteps
-        ensures { IsBegun result }
+    /// No step, over what earlier runs have read and READ has found. `is_earlier` tells whether it found that in the earlier
+    /// run.
+    pub fn begun(
+        alloc: Global,
+        readings: Readings,
+        resolution: Option<KeptResolution>,
+        is_earlier: bool,
+    ) -> KeptSteps
+        ensures begun { IsBegun result }
+        ensures resolution { result.resolution ≡ resolution }
+        ensures is_earlier { result.is_earlier ≡ is_earlier }
     {
         KeptSteps {
             steps: Sequence::new(alloc),
@@ -120,10 +135,29 @@ impl KeptSteps {
             in_step: false,
             calls: None,
             all_calls: None,
-            asked: None,
+            resolution,
+            is_own: false,
+            is_earlier,
             reuse: Reuse::begun(alloc),
             readings,
         }
+    }
+
+    /// The run before, if it had a style of this text, and otherwise nothing.
+    pub fn earlier_under<'a>(&mut self, before: Before<'a>, text: &[u8]) -> &'a Kept
+        requires { AreFoundBy self.old.is_earlier self.old.resolution before.kept.now.entries }
+        ensures steps { result.now.steps
+            ≡ steps_under before.entry.kept.now.text before.entry.kept.now.steps text.now }
+        ensures found { AreFoundBy self.new.is_earlier self.new.resolution result.now.entries }
+        ensures rest { self.new ≡ record self.old { is_earlier = self.new.is_earlier } }
+    {
+        if let Some(own) = &before.kept.text
+            && own.as_slice() == text
+        {
+            return before.kept;
+        }
+        self.is_earlier = false;
+        before.nothing
     }
 
     /// Makes room for as many steps as the earlier run has.
@@ -147,25 +181,30 @@ impl KeptSteps {
         course: &Course,
     ) -> Option<Again<'a>>
         requires placed { IsPlace place (course_world course.now) }
-        requires same { AreSame command.job.earlier.entries.now course.now.entries self.now.same }
+        requires same { AreSame command.job.earlier.now.entries course.now.entries self.now.same }
         requires given { IsTrue self.now.in_step →
-            IsGivenAt command.job.earlier.steps.now self.now.reuse.next (course_world course.now) }
-        requires origins { AreLast (course_world course.now) command.job.earlier.steps.now self.now.origins }
+            IsGivenAt command.job.earlier.now.steps self.now.reuse.next (course_world course.now) }
+        requires origins { AreLast (course_world course.now) command.job.earlier.now.steps self.now.origins }
         ensures at { IfSome result (λ again.
-            slice_get command.entry.job.earlier.steps.now self.now.reuse.next ≡ Some again.step.now) }
+            slice_get command.entry.job.earlier.now.steps self.now.reuse.next ≡ Some again.step.now) }
         ensures tag { IfSome result (λ again.
-            slice_get command.entry.job.earlier.tags.now self.now.reuse.next ≡ Some again.tag) }
+            slice_get command.entry.job.earlier.now.tags self.now.reuse.next ≡ Some again.tag) }
         ensures command { IfSome result (λ again. again.step.now.command ≡ command.entry.site.now.command) }
         ensures input { IfSome result (λ again. again.step.now.input ≡ input_at target place (course_world course.now)) }
     {
         let earlier = command.job.earlier;
         let next = self.reuse.next;
-        let step = earlier.steps.get(next)?;
-        let tag = *earlier.tags.get(next)?;
+        let step = earlier.steps.as_slice().get(next)?;
+        let tag = *earlier.tags.as_slice().get(next)?;
         let known = Known {
-            same: is_same_entry(earlier.places, next, place, self.same.as_slice()),
+            same: is_same_entry(earlier.places.as_slice(), next, place, self.same.as_slice()),
             given: self.in_step,
-            linked: is_linked(earlier.previous, next, self.origins.as_slice(), place),
+            linked: is_linked(
+                earlier.previous.as_slice(),
+                next,
+                self.origins.as_slice(),
+                place,
+            ),
         };
         if step.command == command.site.command
             && is_input(&step.input, course, target, place, known)
@@ -181,11 +220,11 @@ impl KeptSteps {
         input: Input,
         course: &Course,
     ) -> Result<Shared<Step>, AllocError>
-        requires { IsConsistent (program_of command.job.style.now) command.job.earlier (course_world course.now) self.old }
+        requires { IsConsistent (program_of command.job.style.now) command.job.earlier.now (course_world course.now) self.old }
         ensures command { IfOk result (λ s. s.command ≡ command.entry.site.now.command) }
         ensures input { IfOk result (λ s. s.input ≡ input) }
         ensures next { IfOk result (λ s. IsNext (program_of command.entry.job.style.now)
-            command.entry.job.earlier.steps.now s self.old.reuse self.new.reuse) }
+            command.entry.job.earlier.now.steps s self.old.reuse self.new.reuse) }
         ensures rest { OnOk result (self.new ≡ record self.old { reuse = self.new.reuse }) }
     {
         let StepCommand { alloc, job, site } = command;
@@ -214,16 +253,18 @@ impl KeptSteps {
         course: &Course,
     ) -> Result<Next, AllocError>
         requires placed { IsPlace place (course_world course.now) }
-        requires consistent { IsConsistent (program_of command.job.style.now) command.job.earlier (course_world course.now) self.old }
+        requires consistent { IsConsistent (program_of command.job.style.now) command.job.earlier.now (course_world course.now) self.old }
         ensures command { IfOk result (λ n. n.step.command ≡ command.entry.site.now.command) }
         ensures input { IfOk result (λ n. n.step.input ≡ input_at target place (course_world course.now)) }
         ensures next { IfOk result (λ n. IsNext (program_of command.entry.job.style.now)
-            command.entry.job.earlier.steps.now n.step self.old.reuse self.new.reuse) }
+            command.entry.job.earlier.now.steps n.step self.old.reuse self.new.reuse) }
         ensures tag { IfOk result (λ n. n.tag ≡ step_tag n.step) }
         ensures shared { IfOk result (λ n. IsTrue n.shared →
-            IsSharedFrom command.entry.job.earlier.steps.now n.step self.old.reuse.next self.new.reuse.next) }
+            IsSharedFrom command.entry.job.earlier.now.steps n.step self.old.reuse.next self.new.reuse.next) }
         ensures rest { OnOk result (self.new ≡ record self.old { reuse = self.new.reuse }) }
     {
+        // Read for the proof alone: the length fits 64 bits, so that the cursor can't overflow.
+        let _earlier = command.job.earlier.steps.len();
         match self.given_again(command, target, place, course) {
             Some(again) => {
                 self.reuse.next += 1;
@@ -260,7 +301,7 @@ impl Recorder for KeptSteps {
 
     ghost note = { λ steps step. steps ++ step ∷ [] };
 
-    ghost ready = { λ s job w. IsConsistent (program_of job.style.now) job.earlier w s };
+    ghost ready = { λ s job w. IsConsistent (program_of job.style.now) job.earlier.now w s };
 
     /// Also notes which entries the earlier run has at the same place. (Steps before READ have no entry.)
     fn read(
@@ -270,15 +311,15 @@ impl Recorder for KeptSteps {
         number: usize,
         course: &mut Course,
     ) -> Result<(), AllocError> {
-        let alike = read(alloc, job, number, course, &mut self.readings)?;
+        let found = read(alloc, job, number, course, &mut self.resolution)?;
+        let alike = found.when(self.is_earlier);
         let same = same_entries(
             alloc,
-            job.earlier.entries,
+            job.earlier.entries.as_slice(),
             course.entries.as_slice(),
             &alike,
         )?;
         drop(alike);
-        let asked = Asking::at(alloc, job, number)?;
         let places = no_numbers(alloc, self.steps.as_slice())?;
         let lasts = no_numbers(alloc, course.entries.as_slice())?;
         let origins = no_numbers(alloc, course.entries.as_slice())?;
@@ -286,7 +327,8 @@ impl Recorder for KeptSteps {
         self.lasts = lasts;
         self.origins = origins;
         self.same = same;
-        self.asked = Some(asked);
+        self.is_own = true;
+        self.is_earlier = false;
         self.make_room(job.earlier.steps.len())?;
         Ok(())
     }
@@ -301,12 +343,13 @@ impl Recorder for KeptSteps {
     ) -> Result<(), AllocError> {
         // This call does nothing; the proof needs its contract, a law of the machine.
         step_depends_on_its_input();
+        let earlier = command.job.earlier.steps.as_slice();
         let from = self.reuse.next;
         let Next { step, tag, shared } = self.next_step(command, target, place, course)?;
         put_back(command, course, place, &step.outcome)?;
         let next = self.reuse.next;
         let turn = Turn { from, next, shared };
-        count_step(&mut self.calls, command.job.earlier.steps, turn, &step)?;
+        count_step(&mut self.calls, earlier, turn, &step)?;
         self.in_step = shared;
         let previous = last_for(self.lasts.as_slice(), place);
         let own = self.steps.len();

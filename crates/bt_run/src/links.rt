@@ -3,10 +3,22 @@
 //! A step is given the entry that the last step for it left. So if an entry is as an earlier step left it, the next earlier
 //! step for it was given the same, and nobody needs to compare them.
 
-ghost use Rattle.std.specs.Prelude.{◌≡◌, IfSome, IsTrue, Some, slice_get};
+ghost use Rattle.std.specs.Prelude.{◌≡◌, IfOk, IfSome, IsTrue, None, Some, map, slice_get};
 ghost use Rattle.bt_run.specs.inner.Links.{at_entry, with_last, IsLinked};
 
 use bt_text::Sequence;
+use std::alloc::{AllocError, Global};
+
+/// No number for each of some values.
+pub fn no_numbers<T>(alloc: Global, values: &[T]) -> Result<Sequence<Option<usize>>, AllocError>
+    ensures { IfOk result (λ numbers. numbers ≡ map (λ value. None) values.now) }
+{
+    let mut numbers = Sequence::new(alloc);
+    'values: for _value in values {
+        numbers.push(None)?;
+    }
+    Ok(numbers)
+}
 
 /// The number at a place, if there is one.
 pub fn number_at(numbers: &[Option<usize>], place: usize) -> Option<usize>

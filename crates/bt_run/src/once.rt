@@ -1,6 +1,6 @@
 //! A run from scratch that keeps no steps.
 
-ghost use Rattle.std.specs.Prelude.{◌≡◌, ◌≤◌, length, IfOk};
+ghost use Rattle.std.specs.Prelude.{◌≡◌, ◌≤◌, [], length, IfOk};
 ghost use Rattle.std.specs.Option.{ForSome};
 ghost use Rattle.bt_run.specs.Meaning.{style_run, meaning};
 ghost use Rattle.bt_run.specs.inner.Cases.{run_with};
@@ -12,8 +12,8 @@ use crate::answers::{Answers, show};
 use crate::commands::run_style;
 use crate::counts::tell_counts;
 use crate::course::Course;
-use crate::earlier::Earlier;
 use crate::job::{Job, shared_text};
+use crate::kept::Kept;
 use crate::start::with_fault;
 use crate::written_steps::WrittenSteps;
 use bt_job::{AuxTexts, Citations, File, read_citations};
@@ -45,8 +45,10 @@ fn show_asked(
     files: &[File],
     citations: Citations,
     min: u32,
+    nothing: &Kept,
 ) -> Result<Answers, AllocError>
-    requires { ForSome citations.star (λ before. before ≤ length citations.keys) }
+    requires star { ForSome citations.star (λ before. before ≤ length citations.keys) }
+    requires nothing { nothing.now.steps ≡ [] }
     ensures { IfOk result (λ answers. meaning_of answers
         ≡ run_shown (run_with files.now citations min citations.style) citations.wanted) }
 {
@@ -76,7 +78,7 @@ fn show_asked(
                 min,
                 name,
                 style: &style,
-                earlier: Earlier::none(),
+                earlier: nothing,
             };
             let answers = show_style(alloc, job, log, wanted)?;
             Ok(answers)
@@ -97,6 +99,8 @@ pub fn run_once(alloc: Global, files: &[File], root: &[u8], min: u32) -> Result<
     ensures { IfOk result (λ answers. meaning_of answers ≡ meaning files.now root.now min) }
 {
     let citations = read_citations(alloc, files, root, &mut AuxTexts::new(alloc))?;
-    let answers = show_asked(alloc, files, citations, min)?;
-    Ok(answers)
+    let nothing = Kept::nothing(alloc);
+    let answers = show_asked(alloc, files, citations, min, &nothing);
+    drop(nothing);
+    answers
 }

@@ -1,14 +1,14 @@
 //! READ: the entries that the databases give for the citations.
 
-ghost use Rattle.std.specs.Prelude.{◌≡◌, ℕ, map, IfOk, OnOk};
+ghost use Rattle.std.specs.Prelude.{◌≡◌, map, IfOk, OnOk};
 ghost use Rattle.bt_style.specs.Program.{program_of};
 ghost use Rattle.bt_run.specs.ReadCommand.{found_for, with_blank_variables, list_order, read};
 ghost use Rattle.bt_run.specs.inner.Cases.{read_in};
 ghost use Rattle.bt_run.specs.inner.Asked.{question_for};
-ghost use Rattle.bt_run.specs.inner.Earlier.{fixed_at};
 ghost use Rattle.bt_run.specs.inner.Found.{IsKept};
 ghost use Rattle.bt_resolve.specs.inner.Kept.{resolved_for};
-ghost use Rattle.bt_run.specs.inner.Alike.{AreAlike, Stays};
+ghost use Rattle.bt_run.specs.inner.Alike.{IsAlike};
+ghost use Rattle.bt_resolve.specs.declared.question.Question.{Question};
 ghost use Rattle.bt_run.specs.inner.JobView.{job_of};
 
 use crate::alike::Alike;
@@ -16,39 +16,29 @@ use crate::asking::Asking;
 use crate::course::Course;
 use crate::database_messages::tell_databases;
 use crate::declarations::blank;
-use crate::finding::{find, is_about, resolve_asked};
+use crate::finding::{find, resolve_asked};
 use crate::job::Job;
-use crate::readings::Readings;
+use crate::kept_resolution::KeptResolution;
 use bt_actions::{Entry, Variables};
 use bt_resolve::Resolved;
 use bt_style::Style;
 use bt_text::{Sequence, Shared};
 use std::alloc::{AllocError, Global};
 
-/// Finds what READ asks, and returns which entries are known to be the earlier run's.
+/// Finds what READ asks, and returns which entries of what it found before stay.
 fn find_for(
     alloc: Global,
     job: Job<'_>,
     number: usize,
-    readings: &mut Readings,
+    kept: &mut Option<KeptResolution>,
 ) -> Result<Alike, AllocError>
-    ensures kept { OnOk result (IsKept readings.new.resolution (question_for (job_of job.entry) number)) }
-    ensures alike { IfOk result (λ alike. AreAlike alike job.entry.earlier.entries.now
-        (resolved_for (question_for (job_of job.entry) number))) }
+    ensures kept { OnOk result (IsKept kept.new (question_for (job_of job.entry) number)) }
+    ensures alike { IfOk result (λ alike. (was : Question) → IsKept kept.old was →
+        IsAlike alike (resolved_for was) (resolved_for (question_for (job_of job.entry) number))) }
 {
     let asking = Asking::at(alloc, job, number)?;
-    let Readings {
-        databases,
-        edit,
-        resolution,
-        ..
-    } = readings;
-    let is_earlier = is_about(resolution, job.earlier.asked);
-    let alike = find(alloc, asking, resolution, edit, databases)?;
-    if is_earlier {
-        return Ok(alike);
-    }
-    Ok(Alike::Unknown)
+    let alike = find(alloc, asking, kept)?;
+    Ok(alike)
 }
 
 fn found(alloc: Global, job: Job<'_>, number: usize) -> Result<Resolved, AllocError>
@@ -127,20 +117,21 @@ fn enter(
     Ok(())
 }
 
-/// Reads the databases. What they give is kept. Returns which entries are known to be the earlier run's.
+/// Reads the databases. What READ finds is kept. Returns which entries of what it found before stay.
 pub fn read(
     alloc: Global,
     job: Job<'_>,
     number: usize,
     course: &mut Course,
-    readings: &mut Readings,
+    kept: &mut Option<KeptResolution>,
 ) -> Result<Alike, AllocError>
     ensures run { OnOk result (course.new ≡ read (job_of job.entry) number course.old) }
-    ensures alike { IfOk result (λ alike. (n : ℕ) → Stays alike n →
-        fixed_at job.entry.earlier.entries.now n ≡ fixed_at course.new.entries n) }
+    ensures kept { OnOk result (IsKept kept.new (question_for (job_of job.entry) number)) }
+    ensures alike { IfOk result (λ alike. (was : Question) → IsKept kept.old was →
+        IsAlike alike (resolved_for was) (resolved_for (question_for (job_of job.entry) number))) }
 {
-    let alike = find_for(alloc, job, number, readings)?;
-    match &readings.resolution {
+    let alike = find_for(alloc, job, number, kept)?;
+    match kept {
         None => Ok(alike),
         Some(kept) => {
             enter(alloc, job, kept.resolution.resolved(), course)?;

@@ -13,8 +13,8 @@ ghost use Rattle.bt_run.specs.Work.{IsStep};
 ghost use Rattle.bt_run.specs.inner.Work.{IsLike, IsNoneAt, IsNone, IsMet, IsKnown, step_now, IsCounted};
 
 use crate::course::Step;
-use crate::earlier::Earlier;
 use crate::index::Index;
+use crate::kept::Kept;
 use crate::reuse::{KnownReach, Lookup, Reuse};
 use crate::tag::tag_of;
 use bt_machine::{Input, Outcome, activate, agreeing_inputs_have_one_step, agrees, left_over};
@@ -159,25 +159,25 @@ fn is_other(tags: &[u64], place: usize, tag: u64) -> bool
 /// another tag isn't looked at.
 fn tagged_at<'a>(
     style: &Style,
-    earlier: Earlier<'a>,
+    earlier: &'a Kept,
     place: usize,
     tag: u64,
     sought: Sought<'_>,
 ) -> Option<Found<'a>>
     requires { tag ≡ tag_of sought.command (key_in sought.input.now) }
     ensures { MatchOption result
-        (IsNoneAt sought.entry earlier.entry.steps.now place) (IsMet sought.entry earlier.entry.steps.now) }
+        (IsNoneAt sought.entry earlier.entry.now.steps place) (IsMet sought.entry earlier.entry.now.steps) }
 {
-    if is_other(earlier.tags, place, tag) {
+    if is_other(earlier.tags.as_slice(), place, tag) {
         return None;
     }
-    like_at(style, earlier.steps, place, sought)
+    like_at(style, earlier.steps.as_slice(), place, sought)
 }
 
 /// The first step that is one of this command, and whose input agrees with this one in what is reached.
-fn find_anywhere<'a>(style: &Style, earlier: Earlier<'a>, sought: Sought<'_>) -> Option<Found<'a>>
+fn find_anywhere<'a>(style: &Style, earlier: &'a Kept, sought: Sought<'_>) -> Option<Found<'a>>
     ensures { MatchOption result
-        (IsNone sought.entry earlier.entry.steps.now) (IsMet sought.entry earlier.entry.steps.now) }
+        (IsNone sought.entry earlier.entry.now.steps) (IsMet sought.entry earlier.entry.now.steps) }
 {
     let tag = tag_of(sought.command, sought.input);
     'places: for place in 0..earlier.steps.len() {
@@ -208,26 +208,27 @@ fn index_of(
 fn meet<'a>(
     alloc: Global,
     style: &Style,
-    earlier: Earlier<'a>,
+    earlier: &'a Kept,
     next: usize,
     sought: Sought<'_>,
     lookup: &mut Lookup,
 ) -> Result<Option<Found<'a>>, AllocError>
-    requires { ForSome lookup.old.index (IsIndex earlier.steps.now) }
+    requires { ForSome lookup.old.index (IsIndex earlier.now.steps) }
     ensures met { IfOk result (λ met.
-        MatchOption met (IsNone sought.entry earlier.entry.steps.now) (IsMet sought.entry earlier.entry.steps.now)) }
-    ensures indexed { OnOk result (ForSome lookup.new.index (IsIndex earlier.entry.steps.now)) }
+        MatchOption met (IsNone sought.entry earlier.entry.now.steps) (IsMet sought.entry earlier.entry.now.steps)) }
+    ensures indexed { OnOk result (ForSome lookup.new.index (IsIndex earlier.entry.now.steps)) }
 {
-    if let Some(found) = like_at(style, earlier.steps, next, sought) {
+    let steps = earlier.steps.as_slice();
+    if let Some(found) = like_at(style, steps, next, sought) {
         return Ok(Some(found));
     }
     if lookup.scans < SCANS {
         lookup.scans += 1;
         return Ok(find_anywhere(style, earlier, sought));
     }
-    let made = index_of(alloc, earlier.steps, lookup.index.take())?;
+    let made = index_of(alloc, steps, lookup.index.take())?;
     let places = made.places(sought.command, sought.input)?;
-    let met = find_like(style, earlier.steps, places, sought);
+    let met = find_like(style, steps, places, sought);
     lookup.index = Some(made);
     Ok(met)
 }
@@ -300,26 +301,27 @@ pub fn take_over_or_carry_out(
     style: &Style,
     command: usize,
     input: &Input,
-    earlier: Earlier<'_>,
+    earlier: &Kept,
     reuse: &mut Reuse,
 ) -> Result<Done, AllocError>
     requires meter { reuse.old.meter + 1000000 < 2 ^ 128 }
     requires ran { reuse.old.ran + 1 < 2 ^ 128 }
     requires known { All (IsKnown (program_of style.now)) reuse.old.known }
-    requires indexed { ForSome reuse.old.lookup.index (IsIndex earlier.steps.now) }
-    requires steps { All (IsStep (program_of style.now)) earlier.steps.now }
+    requires indexed { ForSome reuse.old.lookup.index (IsIndex earlier.now.steps) }
+    requires steps { All (IsStep (program_of style.now)) earlier.now.steps }
     ensures outcome { IfOk result (λ d. d.outcome ≡ outcome_of (step_in (program_of style.now) input.now)) }
     ensures cost { IfOk result (λ d. d.cost ≡ (step_in (program_of style.now) input.now).cost) }
     ensures known { OnOk result (All (IsKnown (program_of style.now)) reuse.new.known) }
-    ensures indexed { OnOk result (ForSome reuse.new.lookup.index (IsIndex earlier.entry.steps.now)) }
+    ensures indexed { OnOk result (ForSome reuse.new.lookup.index (IsIndex earlier.entry.now.steps)) }
     ensures within { OnOk result (reuse.new.meter ≤ reuse.old.meter + 1000000) }
-    ensures counted { IfOk result (λ d. IsCounted (program_of style.now) earlier.entry.steps.now
+    ensures counted { IfOk result (λ d. IsCounted (program_of style.now) earlier.entry.now.steps
         (step_now command input.now d.outcome d.cost) reuse.old reuse.new) }
 {
     // This call does nothing; the proof needs its contract, a law of the machine.
     agreeing_inputs_have_one_step();
     let known = reach_of(alloc, style, input, &mut reuse.known)?;
     let reach: &Reach = &known;
+    let steps = earlier.steps.as_slice();
     let sought = Sought {
         command,
         input,
@@ -333,7 +335,7 @@ pub fn take_over_or_carry_out(
             Ok(taken)
         }
         None => {
-            reuse.next = place_after(earlier.steps, reuse.next, sought);
+            reuse.next = place_after(steps, reuse.next, sought);
             let ran = carry_out_step(alloc, style, input, reuse)?;
             Ok(ran)
         }

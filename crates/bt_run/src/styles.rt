@@ -1,6 +1,6 @@
 //! Styles as they were read, which outlast the run that read them.
 
-ghost use Rattle.std.specs.Prelude.{◌≡◌, IfOk, IfSome};
+ghost use Rattle.std.specs.Prelude.{◌≡◌, IfOk};
 ghost use Rattle.std.proofs.Props.{props};
 ghost use Rattle.bt_style.specs.Fault.{Gives};
 ghost use Rattle.bt_style.specs.Program.{program_of};
@@ -8,9 +8,8 @@ ghost use Rattle.bt_style.specs.Reader.{style_of};
 ghost use Rattle.bt_run.specs.Styles.{read_as};
 ghost use Rattle.bt_run.specs.inner.BodySet.{bodies_set};
 
-use bt_job::File;
 use bt_style::{Style, StyleFault, StyleRefusal, read_style};
-use bt_text::{Bytes, Sequence, Shared};
+use bt_text::{Bytes, Shared, equal_bytes};
 use std::alloc::{AllocError, Global};
 
 /// A style as it was read: its text, and the style or its first fault.
@@ -61,40 +60,21 @@ impl ReadStyle {
     }
 }
 
-fn style_among<'a>(styles: &'a [ReadStyle], text: &[u8]) -> Option<&'a ReadStyle>
-    ensures { IfSome result (λ known. known.now.text ≡ text.now) }
-{
-    styles.iter().find(|known| known.text.as_slice() == text)
-}
-
-/// The style of a text: the one that was read, else it is read and put after those that were. After out of memory
-/// these are as before, or have it too.
+/// The style of a text: the one that was read last, if it has this text, or else it is read, and takes that one's place.
+/// After out of memory that one is as before, or replaced.
 pub fn known_or_read(
     alloc: Global,
-    styles: &mut Sequence<ReadStyle>,
+    last: &mut Option<ReadStyle>,
     text: Shared<Bytes>,
 ) -> Result<ReadStyle, AllocError>
     ensures { IfOk result (λ known. known.text ≡ text) }
 {
-    if let Some(known) = style_among(styles.as_slice(), text.as_slice()) {
+    if let Some(known) = last
+        && equal_bytes(known.text.as_slice(), text.as_slice())
+    {
         return known.share();
     }
     let known = ReadStyle::read(alloc, text)?;
-    styles.push(known.share()?)?;
+    drop(last.replace(known.share()?));
     Ok(known)
-}
-
-/// Those styles whose text is still one of these files'.
-pub fn present(
-    alloc: Global,
-    files: &[File],
-    styles: &[ReadStyle],
-) -> Result<Sequence<ReadStyle>, AllocError> {
-    let mut present = Sequence::new(alloc);
-    'files: for file in files {
-        if let Some(known) = style_among(styles, file.text.as_slice()) {
-            present.push(known.share()?)?;
-        }
-    }
-    Ok(present)
 }

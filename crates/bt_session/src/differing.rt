@@ -4,6 +4,9 @@
 //! change leaves most of a text as it is.
 
 ghost use Rattle.std.specs.Prelude.{◌≡◌, ◌≤◌, ◌<◌, ◌-◌, ◌++◌, length, take, drop};
+ghost use Rattle.bt_bib.specs.Splice.{IsSplice};
+
+use bt_bib::Splice;
 
 /// How many bytes are compared at once.
 const STEP: usize = 4096;
@@ -11,10 +14,10 @@ const STEP: usize = 4096;
 /// How a text becomes another: the bytes of the new one from `start` up to `new_end` take the place of the bytes from
 /// `start` up to `end`.
 #[derive(Clone, Copy, Debug, PartialEq, Eq)]
-pub struct Difference {
-    pub start: usize,
-    pub end: usize,
-    pub new_end: usize,
+struct Difference {
+    start: usize,
+    end: usize,
+    new_end: usize,
 }
 
 /// The common bytes at the beginnings of two texts, rounded down to steps of this many bytes.
@@ -86,7 +89,7 @@ fn common_back(old: &[u8], new: &[u8]) -> usize
 }
 
 /// How a text becomes another.
-pub fn difference_of(old: &[u8], new: &[u8]) -> Difference
+fn difference_of(old: &[u8], new: &[u8]) -> Difference
     ensures order { result.start ≤ result.new_end }
     ensures within { result.new_end ≤ length new.now }
     ensures old_order { result.start ≤ result.end }
@@ -102,5 +105,21 @@ pub fn difference_of(old: &[u8], new: &[u8]) -> Difference
         start,
         end: old.len() - back,
         new_end: new.len() - back,
+    }
+}
+
+/// The splice that makes one text of another.
+pub fn splice_between(old: &[u8], new: &[u8]) -> Splice
+    ensures { IsSplice old.now new.now result.begin result.end result.inserted }
+{
+    let Difference {
+        start,
+        end,
+        new_end,
+    } = difference_of(old, new);
+    Splice {
+        begin: start,
+        end,
+        inserted: new_end - start,
     }
 }

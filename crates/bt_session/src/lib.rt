@@ -9,7 +9,6 @@ mod differing;
 mod draft;
 mod entry_lines;
 mod files;
-mod rereading;
 mod session;
 
 pub use draft::AuthorDraft;

@@ -2,14 +2,14 @@
 
 ghost use Rattle.std.specs.Prelude.{◌≡◌, IfOk, OnErr, option_map};
 
+use crate::differing::splice_between;
 use crate::draft::AuthorDraft;
 use crate::entry_lines::entry_text;
 use crate::files::{is_full_for, with_text, without};
-use crate::rereading::reread;
 use bt_front::run_after;
 use bt_job::{File, text_of};
 use bt_log::Message;
-use bt_run::{Answers, Kept, Readings, Run};
+use bt_run::{Answers, Kept, Run};
 use bt_text::{Bytes, Sequence, Shared};
 use std::alloc::{AllocError, Global};
 use std::marker::Model;
@@ -25,7 +25,6 @@ pub struct AuthorSession {
     min: u32,
     answers: Answers,
     kept: Kept,
-    readings: Readings,
 }
 
 impl Model for AuthorSession {
@@ -57,18 +56,13 @@ impl AuthorSession {
             root,
             min,
         } = draft;
-        let Run {
-            answers,
-            kept,
-            readings,
-            ..
-        } = run_after(
+        let nothing = &mut Kept::nothing(alloc);
+        let Run { answers, kept, .. } = run_after(
             alloc,
             texts.as_slice(),
             root.as_slice(),
             min,
-            &Kept::nothing(alloc),
-            Readings::nothing(alloc),
+            nothing,
         )?;
         Ok(AuthorSession {
             alloc,
@@ -77,51 +71,41 @@ impl AuthorSession {
             min,
             answers,
             kept,
-            readings,
         })
-    }
-
-    /// Moves what READ found before to other readings, which have none. An edit that fails leaves the session without it.
-    fn move_resolution(&mut self, readings: &mut Readings)
-        ensures { self.new ≡ self.old }
-    {
-        mem::swap(&mut readings.resolution, &mut self.readings.resolution);
     }
 
     /// Goes to other files, using what was read before: everything that they mean is made beside what is kept, and then
     /// replaces it. Only the resolution isn't kept twice: after out of memory the session has none.
-    fn go_to(&mut self, texts: Sequence<File>, readings: Readings) -> Result<(), AllocError>
+    fn go_to(&mut self, texts: Sequence<File>) -> Result<(), AllocError>
         ensures ok { IfOk result (λ _. self.new ≡ record self.old { texts = texts }) }
         ensures err { OnErr result (self.new ≡ self.old) }
     {
-        let mut readings = readings;
-        self.move_resolution(&mut readings);
-        let Run {
-            answers,
-            kept,
-            readings,
-            ..
-        } = run_after(
+        let Run { answers, kept, .. } = run_after(
             self.alloc,
             texts.as_slice(),
             self.root.as_slice(),
             self.min,
-            &self.kept,
-            readings,
+            &mut self.kept,
         )?;
-        // An assignment of these would drop the old ones here, which takes long to prove.
+        // An assignment would drop the old one here, which takes long to prove.
         drop(mem::replace(&mut self.kept, kept));
-        drop(mem::replace(&mut self.readings, readings));
         self.texts = texts;
         self.answers = answers;
         Ok(())
     }
 
-    /// What is known after a file of this name gets a text.
-    fn readings_with(&self, name: &[u8], text: &Shared<Bytes>) -> Result<Readings, AllocError> {
+    /// Takes note that a file of this name gets a text.
+    fn note(&mut self, name: &[u8], text: &Shared<Bytes>) -> Result<(), AllocError>
+        ensures { self.new ≡ self.old }
+    {
         match text_of(self.texts.as_slice(), name) {
-            Some(old) => reread(self.alloc, &self.readings, old, text),
-            None => self.readings.share(self.alloc),
+            Some(old) => self.kept.splice(
+                self.alloc,
+                old,
+                text,
+                splice_between(old, text.as_slice()),
+            ),
+            None => Ok(()),
         }
     }
 
@@ -139,8 +123,8 @@ impl AuthorSession {
     {
         let text = Shared::<Bytes>::copied(self.alloc, text)?;
         let texts = with_text(self.alloc, self.texts.as_slice(), name, text.share()?)?;
-        let readings = self.readings_with(name, &text)?;
-        self.go_to(texts, readings)?;
+        self.note(name, &text)?;
+        self.go_to(texts)?;
         Ok(())
     }
 
@@ -150,8 +134,7 @@ impl AuthorSession {
         ensures err { OnErr result (self.new ≡ self.old) }
     {
         let texts = without(self.alloc, self.texts.as_slice(), name)?;
-        let readings = self.readings.share(self.alloc)?;
-        self.go_to(texts, readings)?;
+        self.go_to(texts)?;
         Ok(())
     }
 
@@ -203,11 +186,6 @@ impl AuthorSession {
         ensures { result.now.steps ≡ steps_of self.now }
     {
         &self.kept
-    }
-
-    /// What the texts were read as.
-    pub fn readings(&self) -> &Readings {
-        &self.readings
     }
 
     /// The text of the file of a name, if there is one.

@@ -206,7 +206,7 @@ fn explain_run(
     let program = Program::of(alloc, styled.style, text)?;
     let run = styled.run;
     let messages = run.answers.messages.as_slice();
-    let places = places_of(alloc, files, messages, run.readings.databases.as_slice())?;
+    let places = places_of(alloc, files, messages, &run.kept)?;
     explain_with(alloc, styled, &program, &places, options)
 }
 

@@ -1,5 +1,5 @@
 -- Parts of rules, for the functions and lemmas that speak of them.
-use Rattle.std.specs.Prelude.{ℕ, ◌+◌, List, [], not, Option, Some, None, Result, Ok, Err, if◌then◌else◌, ◌∷◌, ◌++◌, slice_set, take, drop, filter}
+use Rattle.std.specs.Prelude.{ℕ, ◌+◌, List, [], not, Option, Some, None, Result, Ok, Err, if◌then◌else◌, ◌∷◌, ◌++◌, slice_set, take, drop, filter, unwrap_or}
 use Rattle.std.specs.Option.{is_none}
 use Rattle.bibtex.specs.declared.edit.Refusal.{Refusal}
 use Rattle.bibtex.specs.declared.edit.Refusal.TheVariants.{BadName, NoSuchFile}
@@ -43,3 +43,7 @@ without name files = filter (λ f. not (bytes_eq f.name name)) files
 -- a text with other bytes in the place of its bytes from one place up to another
 abbrev pub replaced : ℕ → ℕ → List ℕ → List ℕ → List ℕ
 replaced start end bytes text = take start text ++ bytes ++ drop end text
+
+-- the present text of a name; the empty text where there is none
+abbrev pub present_text : List File → List ℕ → List ℕ
+present_text files name = unwrap_or (text_of files name) []

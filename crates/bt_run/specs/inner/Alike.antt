@@ -1,6 +1,5 @@
 -- What is known of the entries that READ found, held against those of the run before.
-use Rattle.std.specs.Prelude.{◌≡◌, ℕ, Bool, true, false, ⊤, List, map, slice_get, Option, Some, None}
-use Rattle.std.specs.Option.{ForSome}
+use Rattle.std.specs.Prelude.{◌≡◌, ℕ, Bool, true, false, ⊤, List, map, slice_get, Some}
 use Rattle.bt_actions.specs.declared.entry.Entry.{Entry}
 use Rattle.bt_actions.specs.World.{no_variables}
 use Rattle.bt_resolve.specs.declared.entry.Entry.{Entry as FoundEntry}
@@ -11,8 +10,6 @@ use Rattle.bt_resolve.specs.declared.seen_edit.SeenEdit.TheVariants.{Same, Other
 use Rattle.bt_resolve.specs.inner.Kept.{resolved_for}
 use Rattle.bt_run.specs.declared.alike.Alike.{Alike}
 use Rattle.bt_run.specs.declared.alike.Alike.TheVariants.{Unknown, All, Those}
-use Rattle.bt_run.specs.declared.asking.Asking.{Asking}
-use Rattle.bt_run.specs.inner.Asked.{question_of}
 use Rattle.bt_run.specs.inner.Earlier.{fixed_at}
 
 -- an entry that was found, as a style begins with it
@@ -27,10 +24,6 @@ found_at es n = fixed_at (map found_fixed es) n
 -- These entries are those that were found, but for their variables.
 abbrev pub AreFound : Resolved → List Entry → Type 0
 AreFound all entries = (n : ℕ) → fixed_at entries n ≡ found_at all.entries n
-
--- They are those that were found for a question, if it is known.
-pub record AreAsked (asked : Option Asking) (entries : List Entry) : Type 0 where
-  pub found : ForSome asked (λ a. AreFound (resolved_for (question_of a)) entries)
 
 -- whether something is known
 abbrev pub is_known : Alike → Bool
@@ -52,7 +45,3 @@ IsAlike alike was is = (n : ℕ) → Stays alike n → found_at was.entries n �
 abbrev pub alike_after : SeenEdit → Alike
 alike_after Same = All
 alike_after (Others o) = Those o.stays
-
--- Where it says so, entries are those that were found, but for their variables.
-abbrev pub AreAlike : Alike → List Entry → Resolved → Type 0
-AreAlike alike entries all = (n : ℕ) → Stays alike n → fixed_at entries n ≡ found_at all.entries n

@@ -11,7 +11,7 @@ use Rattle.bt_style.specs.Reach.{Reaches, is_among}
 use Rattle.bt_machine.specs.AgreementLaws.{Agree}
 use Rattle.bt_run.specs.declared.course.Step.{Step}
 use Rattle.bt_run.specs.declared.kept_steps.KeptSteps.{KeptSteps}
-use Rattle.bt_run.specs.declared.earlier.Earlier.{Earlier}
+use Rattle.bt_run.specs.declared.kept.Kept.{Kept}
 use Rattle.bt_run.specs.declared.reuse.KnownReach.{KnownReach}
 use Rattle.bt_run.specs.declared.reuse.Reuse.{Reuse}
 use Rattle.bt_run.specs.declared.reused_step.Sought.{Sought}
@@ -21,7 +21,7 @@ use Rattle.bt_run.specs.inner.Earlier.{ArePlaced, AreSame}
 use Rattle.bt_run.specs.inner.Tags.{step_tag}
 use Rattle.bt_run.specs.inner.Turn.{AreInTurn, AreLeft, IsGivenAt}
 use Rattle.bt_run.specs.inner.Links.{AreLinked, AreLast}
-use Rattle.bt_run.specs.inner.Alike.{AreAsked}
+use Rattle.bt_run.specs.inner.Found.{AreFoundBy}
 use Rattle.bt_run.specs.inner.Calls.{AreCalls, AreCallsFrom}
 use Rattle.bt_run.specs.Work.{IsStep, work_under, total_cost}
 use Rattle.bt_run.specs.Course.{step_kept}
@@ -76,27 +76,28 @@ pub record IsNext (p : Program) (earlier : List Step) (t : Step) (before after :
 -- and costs at most a million ticks for each; they are steps of the style; what was worked out of the style is so; the
 -- index, if there is one, is that of the earlier steps; what is known of entries, globals and the held line without
 -- comparing them is so; and so are the tags, the calls and the links between steps for one entry; the entries are those that READ found.
-pub record IsConsistent (p : Program) (earlier : Earlier) (w : World) (s : KeptSteps) : Type 0 where
-  pub ran : s.reuse.ran ≡ length (work_under p earlier.steps.now s.steps)
-  pub ticks : s.reuse.meter ≡ total_cost (work_under p earlier.steps.now s.steps)
+pub record IsConsistent (p : Program) (earlier : Kept) (w : World) (s : KeptSteps) : Type 0 where
+  pub ran : s.reuse.ran ≡ length (work_under p earlier.steps s.steps)
+  pub ticks : s.reuse.meter ≡ total_cost (work_under p earlier.steps s.steps)
   pub fewer : s.reuse.ran ≤ length s.steps
   pub bounded : s.reuse.meter ≤ 1000000 * length s.steps
   pub steps : All (IsStep p) s.steps
   pub known : All (IsKnown p) s.reuse.known
-  pub indexed : ForSome s.reuse.lookup.index (IsIndex earlier.steps.now)
+  pub indexed : ForSome s.reuse.lookup.index (IsIndex earlier.steps)
   pub counted : length s.places ≡ length s.steps
   pub placed : ArePlaced w.entries s.steps s.places
-  pub same : AreSame earlier.entries.now w.entries s.same
+  pub same : AreSame earlier.entries w.entries s.same
   pub tagged : s.tags ≡ map step_tag s.steps
   pub in_turn : AreInTurn s.steps
   pub left : AreLeft s.steps w
-  pub given : IsTrue s.in_step → IsGivenAt earlier.steps.now s.reuse.next w
-  pub called : ForSome s.calls (AreCallsFrom earlier.steps.now s.reuse.next s.steps)
-  pub found : AreAsked s.asked w.entries
+  pub given : IsTrue s.in_step → IsGivenAt earlier.steps s.reuse.next w
+  pub called : ForSome s.calls (AreCallsFrom earlier.steps s.reuse.next s.steps)
+  pub found : AreFoundBy s.is_own s.resolution w.entries
+  pub found_before : AreFoundBy s.is_earlier s.resolution earlier.entries
   pub spread : length s.previous ≡ length s.steps
   pub linked : AreLinked s.steps s.previous
   pub lasts : AreLast w s.steps s.lasts
-  pub origins : AreLast w earlier.steps.now s.origins
+  pub origins : AreLast w earlier.steps s.origins
 
 -- what the next run may know of the steps of this one, whose entries these are
 pub record AreKept (entries : List Entry) (s : KeptSteps) : Type 0 where
@@ -104,7 +105,7 @@ pub record AreKept (entries : List Entry) (s : KeptSteps) : Type 0 where
   pub tagged : s.tags ≡ map step_tag s.steps
   pub in_turn : AreInTurn s.steps
   pub called : ForSome s.all_calls (AreCalls s.steps)
-  pub found : AreAsked s.asked entries
+  pub found : AreFoundBy s.is_own s.resolution entries
   pub linked : AreLinked s.steps s.previous
 
 -- No step was taken, and nothing is known.
@@ -112,4 +113,4 @@ abbrev pub IsBegun : KeptSteps → Type 0
 IsBegun s =
     (s.steps ≡ []) × (s.places ≡ []) × (s.same ≡ []) × (s.reuse.ran ≡ 0) × (s.reuse.meter ≡ 0) × (s.reuse.known ≡ [])
     × (s.reuse.lookup.index ≡ None) × (s.tags ≡ []) × (s.in_step ≡ false) × (s.reuse.next ≡ 0) × (s.all_calls ≡ None)
-    × (s.asked ≡ None) × (s.previous ≡ []) × (s.lasts ≡ []) × (s.origins ≡ [])
+    × (s.is_own ≡ false) × (s.previous ≡ []) × (s.lasts ≡ []) × (s.origins ≡ [])

@@ -7,14 +7,14 @@ use Rattle.bt_front.specs.Job.{told_under, job_meaning}
 use Rattle.bt_front.proofs.JobLemmas.{job_told}
 use Rattle.bt_front.proofs.job.run_after.Goals as goal
 
-pub returns-in-Ok-clause-meaning : goal.returns-in-Ok-clause-meaning
-returns-in-Ok-clause-meaning c =
-    let under = c.in-Ok.under in
+pub returns-clause-meaning : goal.returns-clause-meaning
+returns-clause-meaning c =
+    let under = c.in_ok-under.under in
     if_ok
     (λ (r : Run). meaning_of r.answers ≡ told_under under.names (meaning under.files under.root c.args.min))
     (λ (r : Run). meaning_of r.answers ≡ job_meaning c.args.files.now c.args.root.now c.args.min)
     c.run_after.result
     (λ r is. job_told under.names c.args.files.now under.files c.args.root.now under.root c.args.min
     (meaning under.files under.root c.args.min) (meaning_of r.answers)
-    c.in-Ok.ensures.names c.in-Ok.ensures.files c.in-Ok.ensures.root refl is)
+    c.in_ok-under.ensures.names c.in_ok-under.ensures.files c.in_ok-under.ensures.root refl is)
     c.run_after.ensures.meaning

@@ -13,26 +13,26 @@ use Rattle.bt_run.proofs.answers.carry_out_style.Goals as goal
 pub run_style-requires : goal.run_style-requires
 run_style-requires c =
     let p = program_of c.args.job.style.now in
-    let earlier = c.args.job.earlier in
-    begun_consistent p earlier (course_world (run_begun (first_globals p) c.args.log).course) c.args.steps.now c.copied-steps.result refl c.requires
-    (subst (λ (o : Option (List ℕ)). ForSome o (AreCalls earlier.steps.now)) (sym c.copied-steps.ensures) earlier.called)
+    let earlier = c.args.job.earlier.now in
+    begun_consistent p earlier (course_world (run_begun (first_globals p) c.args.log).course) c.args.steps.now earlier.calls refl c.requires.begun earlier.called c.requires.found
 
 pub calls_of_all-requires : goal.calls_of_all-requires
 calls_of_all-requires c =
     let s = c.run_style.new.recorder in
-    subst (λ (ss : List Step). ForSome s.calls (AreCallsFrom c.args.job.earlier.steps.now s.reuse.next ss)) (sym c.as_slice.ensures) c.in_ok-course.ensures.ready.called
+    subst (λ (es : List Step). ForSome s.calls (AreCallsFrom es s.reuse.next c.as_slice.result.now)) (sym c.as_slice-earlier.ensures)
+    (subst (λ (ss : List Step). ForSome s.calls (AreCallsFrom c.args.job.earlier.now.steps s.reuse.next ss)) (sym c.as_slice.ensures) c.in_ok-course.ensures.ready.called)
 
 pub returns-clause-run : goal.returns-clause-run
 returns-clause-run c =
     carried_by (job_of c.args.job) c.args.log c.tell_counts.new.log c.in_ok-course.course c.args.steps.now.steps c.run_style.new.recorder.steps c.in_ok-calls.calls
-    c.requires.0 c.in_ok-course.ensures.run (λ place lt. c.in_ok-calls.ensures place lt ∙ ap (λ ss. calls_at ss place) c.as_slice.ensures) c.in_ok-tell_counts.ensures
+    c.requires.begun.0 c.in_ok-course.ensures.run (λ place lt. c.in_ok-calls.ensures place lt ∙ ap (λ ss. calls_at ss place) c.as_slice.ensures) c.in_ok-tell_counts.ensures
 
 pub returns-clause-consistent : goal.returns-clause-consistent
 returns-clause-consistent c =
-    with_calls (program_of c.args.job.style.now) c.args.job.earlier (course_world c.in_ok-course.course) c.run_style.new.recorder (Some c.in_ok-calls.calls) c.in_ok-course.ensures.ready
+    with_calls (program_of c.args.job.style.now) c.args.job.earlier.now (course_world c.in_ok-course.course) c.run_style.new.recorder (Some c.in_ok-calls.calls) c.in_ok-course.ensures.ready
 
 pub returns-clause-kept : goal.returns-clause-kept
 returns-clause-kept c =
     let s = c.run_style.new.recorder in
-    kept_with (program_of c.args.job.style.now) c.args.job.earlier (course_world c.in_ok-course.course) s c.in_ok-calls.calls c.in_ok-course.ensures.ready
+    kept_with (program_of c.args.job.style.now) c.args.job.earlier.now (course_world c.in_ok-course.course) s c.in_ok-calls.calls c.in_ok-course.ensures.ready
     (subst (λ (ss : List Step). AreCalls ss c.in_ok-calls.calls) c.as_slice.ensures c.in_ok-calls.ensures)

@@ -31,6 +31,6 @@ returns-clause-report c =
     let ran = c.in_ok-ran.ran in
     let own = c.run_with.new.steps in
     let told = c.of-report.ensures in
-    reported c.args.files.now c.args.root.now c.args.min c.args.kept.now.text c.args.kept.now.steps ran.text own.steps own.reuse c.of-report.result
+    reported c.args.files.now c.args.root.now c.args.min c.args.before.kept.now.text c.args.before.kept.now.steps ran.text own.steps own.reuse c.of-report.result
     (told.status ∙ ap (λ (m : Meaning). m.status) (returns-clause-shown c)) (returns-clause-text c) (returns-clause-steps c) c.in_ok-ran.ensures.taken told.ran
     (told.reused ∙ ap (λ (steps : List Step). length steps - own.reuse.ran) c.as_slice-3.ensures) told.ticks

@@ -12,22 +12,22 @@ invariant_of-job-clause-fields_apart c =
 
 pub invariant_of-job-clause-steps : goal.invariant_of-job-clause-steps
 invariant_of-job-clause-steps c =
-    let k = c.args.kept.now in
+    let k = c.args.before.kept.now in
     let style = c.deref-in-Ok.result.now in
     let read = lent_style c.in_ok-text.text c.in-Ok.style style c.in-Ok.ensures c.deref-in-Ok.ensures in
     let is = c.as_slice-bytes.ensures ∙ c.deref.ensures in
-    earlier_steps (program_of style) c.in_ok-text.text k.text k.steps c.earlier_under-earlier.result.steps.now k.true_steps read
-    (c.earlier_under-earlier.ensures ∙ ap (steps_under k.text k.steps) is)
+    earlier_steps (program_of style) c.in_ok-text.text k.text k.steps c.earlier_under-earlier.result.now.steps k.true_steps read
+    (c.earlier_under-earlier.ensures.steps ∙ ap (steps_under k.text k.steps) is)
 
 pub returns-in_ok-course-in-Ok-clause-taken : goal.returns-in_ok-course-in-Ok-clause-taken
 returns-in_ok-course-in-Ok-clause-taken c =
-    let k = c.args.kept.now in
+    let k = c.args.before.kept.now in
     let style = c.deref-in-Ok.result.now in
     let read = lent_style c.in_ok-text.text c.in-Ok.style style c.in-Ok.ensures c.deref-in-Ok.ensures in
     let is = c.as_slice-bytes.ensures ∙ c.deref.ensures in
     rw c.new-in-Ok.ensures.text
-    (run_taken (program_of style) k.text k.steps c.in_ok-text.text c.earlier_under-earlier.result (course_world c.in_ok-course-in-Ok.course) c.carry_out_style.new.steps
-    read (c.earlier_under-earlier.ensures ∙ ap (steps_under k.text k.steps) is) c.in_ok-course-in-Ok.ensures.consistent)
+    (run_taken (program_of style) k.text k.steps c.in_ok-text.text c.earlier_under-earlier.result.now (course_world c.in_ok-course-in-Ok.course) c.carry_out_style.new.steps
+    read (c.earlier_under-earlier.ensures.steps ∙ ap (steps_under k.text k.steps) is) c.in_ok-course-in-Ok.ensures.consistent)
 
 pub returns-in_ok-course-in-Err-Fault-clause-taken : goal.returns-in_ok-course-in-Err-Fault-clause-taken
-returns-in_ok-course-in-Err-Fault-clause-taken c = nothing_taken c.args.kept.now.text c.args.kept.now.steps c.new-in-Err-Fault.result.text c.args.steps.now c.requires.begun
+returns-in_ok-course-in-Err-Fault-clause-taken c = nothing_taken c.args.before.kept.now.text c.args.before.kept.now.steps c.new-in-Err-Fault.result.text c.args.steps.now c.requires.begun

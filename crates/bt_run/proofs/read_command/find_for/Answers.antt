@@ -1,12 +1,10 @@
 use Rattle.std.proofs.Common.{subst}
-use Rattle.std.specs.Prelude.{option_copied}
 use Rattle.bt_resolve.specs.declared.question.Question.{Question}
 use Rattle.bt_resolve.specs.inner.Kept.{resolved_for}
 use Rattle.bt_run.specs.inner.Alike.{IsAlike}
 use Rattle.bt_run.specs.inner.Asked.{question_for}
 use Rattle.bt_run.specs.inner.Found.{IsKept}
 use Rattle.bt_run.specs.inner.JobView.{job_of}
-use Rattle.bt_run.proofs.AlikeLemmas.{earlier_alike}
 use Rattle.bt_run.proofs.FindingLemmas.{fields_apart, star_within}
 use Rattle.bt_run.proofs.read_command.find_for.Goals as goal
 
@@ -19,10 +17,6 @@ find-requires-clause-star c = star_within c.in_ok-asking.asking (question_for (j
 pub returns-clause-kept : goal.returns-clause-kept
 returns-clause-kept c = subst (IsKept c.find.new.kept) c.in_ok-asking.ensures c.in_ok-alike.ensures.kept
 
-pub returns-then-is_earlier-clause-alike : goal.returns-then-is_earlier-clause-alike
-returns-then-is_earlier-clause-alike c =
-    let earlier = c.args.job.earlier in
-    let question = question_for (job_of c.args.job) c.args.number in
-    earlier_alike (option_copied earlier.asked) earlier.entries.now c.args.readings.now.resolution c.in_ok-alike.alike (resolved_for question)
-    earlier.found (c.is_about-is_earlier.ensures c.if-is_earlier.true)
-    (λ was kept. subst (λ (q : Question). IsAlike c.in_ok-alike.alike (resolved_for was) (resolved_for q)) c.in_ok-asking.ensures (c.in_ok-alike.ensures.alike was kept))
+pub returns-clause-alike : goal.returns-clause-alike
+returns-clause-alike c = λ was kept.
+    subst (λ (q : Question). IsAlike c.in_ok-alike.alike (resolved_for was) (resolved_for q)) c.in_ok-asking.ensures (c.in_ok-alike.ensures.alike was kept)

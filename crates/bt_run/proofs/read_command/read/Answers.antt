@@ -6,15 +6,11 @@ use Rattle.bt_run.specs.inner.Cases.{read_in}
 use Rattle.bt_run.specs.inner.Asked.{question_for}
 use Rattle.bt_run.specs.inner.Found.{IsKept}
 use Rattle.bt_run.specs.inner.JobView.{job_of}
-use Rattle.bt_run.proofs.AlikeLemmas.{alike_read}
 use Rattle.bt_run.proofs.FindingLemmas.{resolved_is}
 use Rattle.bt_run.proofs.read_command.read.Goals as goal
 
 pub returns-in-None-clause-run : goal.returns-in-None-clause-run
 returns-in-None-clause-run c = absurd (subst (λ (o : Option KeptResolution). IsKept o (question_for (job_of c.args.job) c.args.number)) c.in-None.is c.in_ok-alike.ensures.kept)
-
-pub returns-in-None-clause-alike : goal.returns-in-None-clause-alike
-returns-in-None-clause-alike c = absurd (subst (λ (o : Option KeptResolution). IsKept o (question_for (job_of c.args.job) c.args.number)) c.in-None.is c.in_ok-alike.ensures.kept)
 
 pub returns-in_ok-enter-in-Some-clause-run : goal.returns-in_ok-enter-in-Some-clause-run
 returns-in_ok-enter-in-Some-clause-run c =
@@ -22,8 +18,3 @@ returns-in_ok-enter-in-Some-clause-run c =
     let kept = subst (λ (o : Option KeptResolution). IsKept o (question_for job c.args.number)) c.in-Some.is c.in_ok-alike.ensures.kept in
     let found = c.resolved.ensures ∙ ap resolved_for kept ∙ resolved_is job c.args.number in
     c.in_ok-enter-in-Some.ensures ∙ ap (λ (all : Resolved). read_in job.program job.databases all c.args.course.now) found
-
-pub returns-in_ok-enter-in-Some-clause-alike : goal.returns-in_ok-enter-in-Some-clause-alike
-returns-in_ok-enter-in-Some-clause-alike c =
-    alike_read c.in_ok-alike.alike c.args.job.earlier.entries.now (job_of c.args.job) c.args.number c.args.course.now c.enter.new.course
-    c.in_ok-alike.ensures.alike (returns-in_ok-enter-in-Some-clause-run c)

@@ -13,7 +13,7 @@ returns-clause-next c =
     let command = c.args.command.site.now.command in
     let told = c.in_ok-outcome.ensures in
     let made : c.in_ok-step.step ≡ step_now command i done.outcome done.cost = c.in_ok-step.ensures ∙ c.in_ok-made.ensures in
-    subst (λ (s : Step). IsNext p c.args.command.job.earlier.steps.now s c.args.self.now.reuse c.take_over_or_carry_out.new.reuse) (sym made) (record {
+    subst (λ (s : Step). IsNext p c.args.command.job.earlier.now.steps s c.args.self.now.reuse c.take_over_or_carry_out.new.reuse) (sym made) (record {
       step = record { is = λ j. step_kept command i (record { outcome = told.outcome j; cost = told.cost j }) };
       counted = told.counted;
       within = told.within;

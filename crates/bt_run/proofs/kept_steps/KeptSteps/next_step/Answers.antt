@@ -16,18 +16,18 @@ returns-in_ok-step-in-Some-clause-next c =
     let p = program_of job.style.now in
     let reuse = c.args.self.now.reuse in
     let after : Reuse = record reuse { next = reuse.next + 1 } in
-    subst (λ (s : Step). IsNext p job.earlier.steps.now s reuse after) (sym c.in_ok-step-in-Some.ensures)
-    (met_again p job.earlier.steps.now c.in-Some.again.step.now reuse after job.steps (found_in job.earlier.steps.now reuse.next c.in-Some.again.step.now c.in-Some.ensures.at) c.requires.consistent.known c.requires.consistent.indexed refl)
+    subst (λ (s : Step). IsNext p job.earlier.now.steps s reuse after) (sym c.in_ok-step-in-Some.ensures)
+    (met_again p job.earlier.now.steps c.in-Some.again.step.now reuse after job.steps (found_in job.earlier.now.steps reuse.next c.in-Some.again.step.now c.in-Some.ensures.at) c.requires.consistent.known c.requires.consistent.indexed refl)
 
 pub returns-in_ok-step-in-Some-clause-tag : goal.returns-in_ok-step-in-Some-clause-tag
 returns-in_ok-step-in-Some-clause-tag c =
-    let earlier = c.args.command.job.earlier in
-    tag_at earlier.steps.now earlier.tags.now c.args.self.now.reuse.next c.in-Some.again.step.now c.in-Some.again.tag earlier.tagged c.in-Some.ensures.at c.in-Some.ensures.tag
+    let earlier = c.args.command.job.earlier.now in
+    tag_at earlier.steps earlier.tags c.args.self.now.reuse.next c.in-Some.again.step.now c.in-Some.again.tag earlier.tagged c.in-Some.ensures.at c.in-Some.ensures.tag
     ∙ ap step_tag (sym c.in_ok-step-in-Some.ensures)
 
 pub returns-in_ok-step-in-Some-clause-shared : goal.returns-in_ok-step-in-Some-clause-shared
 returns-in_ok-step-in-Some-clause-shared c = λ go.
-    let steps = c.args.command.job.earlier.steps.now in
+    let steps = c.args.command.job.earlier.now.steps in
     let next = c.args.self.now.reuse.next in
     subst (λ (s : Step). IsSharedFrom steps s next (next + 1)) (sym c.in_ok-step-in-Some.ensures) (record { at = c.in-Some.ensures.at; on = refl })
 

@@ -13,8 +13,10 @@ use Rattle.bt_run.proofs.kept_steps.KeptStepsRecorder.take_step.Goals as goal
 
 pub count_step-requires : goal.count_step-requires
 count_step-requires c = λ go.
-    subst (λ (s : Step). IsSharedFrom c.args.command.job.earlier.steps.now s c.args.self.now.reuse.next c.next_step.new.self.reuse.next)
-    (sym c.deref-2.ensures) (c.in_ok-step.ensures.shared go)
+    let from = c.args.self.now.reuse.next in
+    let next = c.next_step.new.self.reuse.next in
+    subst (λ (es : List Step). IsSharedFrom es c.deref-2.result.now from next) (sym c.as_slice-earlier.ensures)
+    (subst (λ (s : Step). IsSharedFrom c.args.command.job.earlier.now.steps s from next) (sym c.deref-2.ensures) (c.in_ok-step.ensures.shared go))
 
 pub returns-clause-run : goal.returns-clause-run
 returns-clause-run c =
@@ -29,12 +31,16 @@ returns-clause-run c =
 pub returns-clause-ready : goal.returns-clause-ready
 returns-clause-ready c =
     let site = c.args.command.site.now in
-    let earlier = c.args.command.job.earlier in
+    let earlier = c.args.command.job.earlier.now in
     let taken = c.in_ok-step.field-0 in
     let from = c.args.self.now.reuse.next in
     let next = c.next_step.new.self.reuse.next in
-    let called : (ss : List Step) → ForSome c.next_step.new.self.calls (AreCallsFrom earlier.steps.now from ss) → ForSome c.count_step.new.calls (AreCallsFrom earlier.steps.now next (ss ++ taken.step ∷ [])) =
-    λ ss were. subst (λ (s : Step). ForSome c.count_step.new.calls (AreCallsFrom earlier.steps.now next (ss ++ s ∷ []))) c.deref-2.ensures (c.in_ok-count_step.ensures ss were)
+    let counted : (ss : List Step) → ForSome c.next_step.new.self.calls (AreCallsFrom earlier.steps from ss) → ForSome c.count_step.new.calls (AreCallsFrom earlier.steps next (ss ++ c.deref-2.result.now ∷ [])) =
+    subst (λ (es : List Step). (ss : List Step) → ForSome c.next_step.new.self.calls (AreCallsFrom es from ss) → ForSome c.count_step.new.calls (AreCallsFrom es next (ss ++ c.deref-2.result.now ∷ [])))
+    c.as_slice-earlier.ensures c.in_ok-count_step.ensures
+    in
+    let called : (ss : List Step) → ForSome c.next_step.new.self.calls (AreCallsFrom earlier.steps from ss) → ForSome c.count_step.new.calls (AreCallsFrom earlier.steps next (ss ++ taken.step ∷ [])) =
+    λ ss were. subst (λ (s : Step). ForSome c.count_step.new.calls (AreCallsFrom earlier.steps next (ss ++ s ∷ []))) c.deref-2.ensures (counted ss were)
     in
     let links : Links = record {
       link = c.last_for-previous.result;

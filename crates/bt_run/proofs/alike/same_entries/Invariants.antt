@@ -1,6 +1,6 @@
 use Rattle.std.proofs.Common.{◌≡◌, length}
 use Rattle.bt_run.specs.inner.Earlier.{AreSame}
-use Rattle.bt_run.proofs.earlier.same_entries.Given as goal
+use Rattle.bt_run.proofs.alike.same_entries.Given as goal
 
 abbrev pub invariant-places : goal.invariant-places
 invariant-places l = record {

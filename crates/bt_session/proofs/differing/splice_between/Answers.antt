@@ -1,5 +1,5 @@
 use Rattle.bt_session.proofs.DifferLemmas.{difference_is_splice}
-use Rattle.bt_session.proofs.rereading.splice_between.Goals as goal
+use Rattle.bt_session.proofs.differing.splice_between.Goals as goal
 
 pub returns : goal.returns
 returns c =
