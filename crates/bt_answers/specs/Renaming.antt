@@ -162,9 +162,9 @@ renamed_of files docs c d (Some m) (Some new) =
     if is_named d.text m then renamed_if_free files docs c (wanted_of m.role) (part m.from m.to d.text) new else Ok null
 
 -- the edits that give the key or the macro at a position of a document a new name
-abbrev pub renamed_at : List (List ℕ × List ℕ) → List Document → Counting → Document → Position → Option (List ℕ) →
+abbrev pub rename_at : List (List ℕ × List ℕ) → List Document → Counting → Document → Position → Option (List ℕ) →
     Result Data RpcError
-renamed_at files docs c d at new = renamed_of files docs c d (mention_at d at) new
+rename_at files docs c d at new = renamed_of files docs c d (mention_at d at) new
 
 -- the range of the name of what is looked for, if it can change
 abbrev pub range_if_defined : List (List ℕ × List ℕ) → List Document → Counting → Document → Mention → Result Data RpcError

@@ -8,20 +8,20 @@ ghost use Rattle.bt_answers.specs.Folding.{fold_of, folds_in, folds_of};
 use bt_bib::{PlacedPiece, read_bib};
 use bt_documents::Document;
 use bt_places::{SHOWN_BYTES, is_database};
-use bt_positions::{Counting, IndexedText};
 use bt_shapes::fold_between;
 use serde_json::Value;
 use std::alloc::{AllocError, Global};
 
 fn fold_of(
     alloc: Global,
-    counting: Counting,
-    text: &IndexedText,
+    document: &Document,
     piece: &PlacedPiece,
 ) -> Result<Option<Value>, AllocError>
-    requires { 2 * length text.now < 2 ^ 64 }
-    ensures { IfOk result (λ found. option_map view found ≡ fold_of counting text.now piece.now) }
+    requires { 2 * length document.now.text < 2 ^ 64 }
+    ensures { IfOk result (λ found. option_map view found ≡ fold_of document.now.counting document.now.text piece.now) }
 {
+    let counting = document.counting;
+    let text = &document.text;
     let end = text.as_slice().len();
     let from = text.position_of(counting, piece.start.place.min(end));
     let to = text.position_of(counting, piece.end.place.min(end));
@@ -30,17 +30,16 @@ fn fold_of(
 
 fn add_fold(
     alloc: Global,
-    counting: Counting,
-    text: &IndexedText,
+    document: &Document,
     piece: &PlacedPiece,
     list: Vec<Value>,
 ) -> Result<Vec<Value>, AllocError>
-    requires { 2 * length text.now < 2 ^ 64 }
+    requires { 2 * length document.now.text < 2 ^ 64 }
     ensures { IfOk result (λ all. map view all.items ≡
-        map view list.items ++ cons_option (fold_of counting text.now piece.now) []) }
+        map view list.items ++ cons_option (fold_of document.now.counting document.now.text piece.now) []) }
 {
     let mut all = list;
-    if let Some(found) = fold_of(alloc, counting, text, piece)? {
+    if let Some(found) = fold_of(alloc, document, piece)? {
         all.push(found)?;
     }
     Ok(all)
@@ -48,16 +47,15 @@ fn add_fold(
 
 fn folds_in(
     alloc: Global,
-    counting: Counting,
-    text: &IndexedText,
+    document: &Document,
     pieces: &[PlacedPiece],
 ) -> Result<Vec<Value>, AllocError>
-    requires { 2 * length text.now < 2 ^ 64 }
-    ensures { IfOk result (λ list. map view list.items ≡ folds_in counting text.now pieces.now) }
+    requires { 2 * length document.now.text < 2 ^ 64 }
+    ensures { IfOk result (λ list. map view list.items ≡ folds_in document.now.counting document.now.text pieces.now) }
 {
     let mut list = Vec::new(alloc);
     'pieces: for piece in pieces {
-        list = add_fold(alloc, counting, text, piece, list)?;
+        list = add_fold(alloc, document, piece, list)?;
     }
     Ok(list)
 }
@@ -71,6 +69,6 @@ pub fn folds_of(alloc: Global, document: &Document) -> Result<Value, AllocError>
         return Ok(Value::Null);
     }
     let items = read_bib(alloc, text.as_slice())?;
-    let list = folds_in(alloc, document.counting, text, items.pieces())?;
+    let list = folds_in(alloc, document, items.pieces())?;
     Ok(Value::Array(list))
 }

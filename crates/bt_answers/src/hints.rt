@@ -10,7 +10,9 @@ ghost use Rattle.bt_answers.specs.Hints.{room_after, is_small, with_name, is_ask
 use crate::missing::is_missing_at;
 use bt_documents::Document;
 use bt_mentions::{Mention, Role, is_parent, part};
-use bt_places::{Paper, Pick, is_database, is_tex, mentions_of, range_of, with_picked, with_value};
+use bt_places::{
+    NamedText, Paper, Pick, is_database, is_tex, mentions_of, range_of, with_picked, with_value,
+};
 use bt_positions::{Counting, IndexedText};
 use bt_text::NameList;
 use serde_json::{Value, json};
@@ -196,17 +198,15 @@ impl Pick for Missing<'_> {
     fn pick(
         &self,
         alloc: Global,
-        uri: &[u8],
-        text: &IndexedText,
+        file: &NamedText<'_>,
         list: Vec<Value>,
         one: Mention,
     ) -> Result<Vec<Value>, AllocError> {
-        let _ = uri;
-        let missing = is_missing_at(alloc, self.known, text.as_slice(), one)?;
+        let missing = is_missing_at(alloc, self.known, file.text.as_slice(), one)?;
         if !missing {
             return Ok(list);
         }
-        with_missing_hint(alloc, self.counting, text, list, one)
+        with_missing_hint(alloc, self.counting, file.text, list, one)
     }
 }
 
@@ -239,17 +239,15 @@ impl Pick for Unused<'_> {
     fn pick(
         &self,
         alloc: Global,
-        uri: &[u8],
-        text: &IndexedText,
+        file: &NamedText<'_>,
         list: Vec<Value>,
         one: Mention,
     ) -> Result<Vec<Value>, AllocError> {
-        let _ = uri;
-        let unused = is_unused_at(alloc, self.asked, text.as_slice(), one)?;
+        let unused = is_unused_at(alloc, self.asked, file.text.as_slice(), one)?;
         if !unused {
             return Ok(list);
         }
-        with_unused_hint(alloc, self.counting, text, list, one)
+        with_unused_hint(alloc, self.counting, file.text, list, one)
     }
 }
 

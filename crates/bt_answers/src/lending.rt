@@ -1,11 +1,7 @@
 //! What databases use of the paper's style: its macros, and the functions of their entries' types.
 
-ghost use Rattle.std.specs.Prelude.{◌≡◌, ◌<◌, ◌*◌, ◌^◌, length, map, IfOk};
-ghost use Rattle.serde_json.specs.View.{view};
-ghost use Rattle.bt_style_answers.specs.References.{with_declaration};
-
 use bt_places::{Editor, SHOWN_BYTES, Visit, is_style};
-use bt_positions::{Counting, IndexedText};
+use bt_positions::IndexedText;
 use bt_style_answers::{Lent, ShownStyle};
 use serde_json::Value;
 use std::alloc::{AllocError, Global};
@@ -16,28 +12,6 @@ pub struct Loan<'a> {
     pub editor: Editor<'a>,
     pub lent: Lent,
     pub name: &'a [u8],
-}
-
-fn with_declaration(
-    alloc: Global,
-    counting: Counting,
-    loan: &Loan<'_>,
-    list: Vec<Value>,
-    uri: &[u8],
-    text: &[u8],
-) -> Result<Vec<Value>, AllocError>
-    requires { 2 * length text.now < 2 ^ 64 }
-    ensures { IfOk result (λ all. map view all.items ≡
-        with_declaration counting uri.now text.now loan.now.lent loan.now.name.now (map view list.items)) }
-{
-    let indexed = IndexedText::copied(alloc, text)?;
-    let style = ShownStyle {
-        uri,
-        counting,
-        text: &indexed,
-    };
-    let all = style.with_declaration(alloc, list, loan.lent, loan.name)?;
-    Ok(all)
 }
 
 impl Visit for Loan<'_> {
@@ -57,6 +31,13 @@ impl Visit for Loan<'_> {
         if !is_style(uri) || text.len() > SHOWN_BYTES {
             return Ok(list);
         }
-        with_declaration(alloc, self.editor.counting_in(uri), self, list, uri, text)
+        let indexed = IndexedText::copied(alloc, text)?;
+        let style = ShownStyle {
+            uri,
+            counting: self.editor.counting_in(uri),
+            text: &indexed,
+        };
+        let all = style.with_declaration(alloc, list, self.lent, self.name)?;
+        Ok(all)
     }
 }

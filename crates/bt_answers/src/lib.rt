@@ -31,6 +31,6 @@ pub use links::{file_name, links_of};
 pub use outline::symbols_of;
 pub use references::{is_definition, macro_at, references_at};
 pub use related::{diagnostics_in, shows_related};
-pub use renaming::{name_range_at, renamed_at, with_edits, with_text_edit, workspace_edit};
+pub use renaming::{name_range_at, rename_at, with_edits, workspace_edit};
 pub use symbols::symbols_for;
 pub use uncited::hovered_at;

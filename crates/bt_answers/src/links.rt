@@ -3,6 +3,7 @@
 ghost use Rattle.std.specs.Prelude.{◌≡◌, ◌≤◌, ◌<◌, ◌*◌, ◌^◌, ◌++◌, ◌∷◌, [], length, map, IfOk};
 ghost use Rattle.std.specs.List.{fold, list_all};
 ghost use Rattle.serde_json.specs.View.{view};
+ghost use Rattle.bt_mentions.specs.Databases.{part};
 ghost use Rattle.bt_answers.specs.Links.{extension, has_own_extension, full_name, is_plain_byte, behind_slash, file_name, folder, folder_before, ends_with, link_value, link_to, with_link_to, with_part, with_named, with_link, links_of};
 
 use bt_documents::Document;
@@ -197,10 +198,11 @@ fn with_part(
     document: &Document,
     link: Link,
     list: Vec<Value>,
-    name: &[u8],
 ) -> Result<Vec<Value>, AllocError>
-    ensures { IfOk result (λ all. map view all.items ≡ with_part document.now link (map view list.items) name.now) }
+    ensures { IfOk result (λ all. map view all.items ≡
+        with_part document.now link (map view list.items) (part link.from link.to document.now.text)) }
 {
+    let name = part(document.text.as_slice(), link.from, link.to);
     let before = folder_before(folder(document.name.as_slice()), name);
     let target = full_name(alloc, before, link.kind, name)?;
     let all = with_link_to(alloc, document, link, list, target.as_slice())?;
@@ -214,11 +216,11 @@ fn with_named<P: Paper>(
     document: &Document,
     link: Link,
     list: Vec<Value>,
-    name: &[u8],
 ) -> Result<Vec<Value>, AllocError>
-    ensures { IfOk result (λ all. map view all.items ≡
-        with_named (P.shown paper.now).files document.now link (map view list.items) name.now) }
+    ensures { IfOk result (λ all. map view all.items ≡ with_named (P.shown paper.now).files document.now link
+        (map view list.items) (part link.from link.to document.now.text)) }
 {
+    let name = part(document.text.as_slice(), link.from, link.to);
     let suffix = full_name(alloc, b"/", link.kind, name)?;
     let named = Named {
         document,
@@ -244,9 +246,9 @@ fn with_link<P: Paper>(
         return Ok(list);
     }
     match link.kind {
-        LinkKind::Text => with_part(alloc, document, link, list, name),
+        LinkKind::Text => with_part(alloc, document, link, list),
         LinkKind::Database | LinkKind::Style => {
-            let all = with_named(alloc, paper, document, link, list, name)?;
+            let all = with_named(alloc, paper, document, link, list)?;
             Ok(all)
         }
     }

@@ -7,13 +7,12 @@ ghost use Rattle.bt_places.specs.Shapes.{location, range_of};
 ghost use Rattle.bt_answers.specs.References.{wanted_of, asked_of, is_use, is_definition, is_wanted, is_mention, all_references, is_mentioned, references, references_at, macro_places, macro_at};
 
 use crate::lending::Loan;
-use bt_documents::Document;
 use bt_mentions::{Mention, Role, part};
 use bt_places::{
-    Editor, Paper, Pick, Visit, is_any, is_key, location, mention_at, range_of, with_files,
-    with_picked, with_texts, with_value,
+    Cursor, Editor, NamedText, Paper, Pick, Visit, is_any, is_key, location, mention_at, range_of,
+    with_files, with_picked, with_texts, with_value,
 };
-use bt_positions::{Counting, IndexedText, Position};
+use bt_positions::Counting;
 use bt_style_answers::Lent;
 use bt_text::eq_ignore_ascii_case;
 use serde_json::Value;
@@ -108,17 +107,16 @@ pub fn is_mention(wanted: Wanted, name: &[u8], text: &[u8], one: Mention) -> boo
 fn with_place(
     alloc: Global,
     counting: Counting,
-    uri: &[u8],
-    text: &IndexedText,
+    file: &NamedText<'_>,
     list: Vec<Value>,
     one: Mention,
 ) -> Result<Vec<Value>, AllocError>
-    requires { 2 * length text.now < 2 ^ 64 }
+    requires { 2 * length file.now.text.now < 2 ^ 64 }
     ensures { IfOk result (λ all. map view all.items ≡
-        map view list.items ++ location uri.now (range_of counting text.now one.from one.to) ∷ []) }
+        map view list.items ++ location file.now.uri.now (range_of counting file.now.text.now one.from one.to) ∷ []) }
 {
-    let range = range_of(alloc, counting, text, one.from, one.to)?;
-    let place = location(alloc, uri, range)?;
+    let range = range_of(alloc, counting, file.text, one.from, one.to)?;
+    let place = location(alloc, file.uri, range)?;
     let all = with_value(list, place)?;
     Ok(all)
 }
@@ -133,15 +131,14 @@ impl Pick for Search<'_> {
     fn pick(
         &self,
         alloc: Global,
-        uri: &[u8],
-        text: &IndexedText,
+        file: &NamedText<'_>,
         list: Vec<Value>,
         one: Mention,
     ) -> Result<Vec<Value>, AllocError> {
-        if !is_mention(self.wanted, self.name, text.as_slice(), one) {
+        if !is_mention(self.wanted, self.name, file.text.as_slice(), one) {
             return Ok(list);
         }
-        with_place(alloc, self.editor.counting_in(uri), uri, text, list, one)
+        with_place(alloc, self.editor.counting_in(file.uri), file, list, one)
     }
 }
 
@@ -202,20 +199,19 @@ pub fn references_at<P: Paper>(
     alloc: Global,
     paper: &P,
     editor: &Editor<'_>,
-    document: &Document,
-    at: Position,
+    cursor: &Cursor<'_>,
     with_declarations: bool,
 ) -> Result<Value, AllocError>
     ensures { IfOk result (λ v. view v ≡ references_at (P.shown paper.now).files editor.now.documents.now
-        editor.now.counting document.now at with_declarations) }
+        editor.now.counting cursor.now.document.now cursor.now.at with_declarations) }
 {
-    let Some(one) = mention_at(alloc, document, at)? else {
+    let Some(one) = mention_at(alloc, cursor)? else {
         return Ok(Value::Null);
     };
     let search = Search {
         editor: *editor,
         wanted: asked_of(one.role, with_declarations),
-        name: part(document.text.as_slice(), one.from, one.to),
+        name: part(cursor.document.text.as_slice(), one.from, one.to),
     };
     let found = references(alloc, paper, &search)?;
     Ok(found)
@@ -250,19 +246,18 @@ pub fn macro_at<P: Paper>(
     alloc: Global,
     paper: &P,
     editor: &Editor<'_>,
-    document: &Document,
-    at: Position,
+    cursor: &Cursor<'_>,
 ) -> Result<Option<Value>, AllocError>
     ensures { IfOk result (λ found. option_map view found ≡
-        macro_at (P.shown paper.now).files editor.now.documents.now editor.now.counting document.now at) }
+        macro_at (P.shown paper.now).files editor.now.documents.now editor.now.counting cursor.now.document.now cursor.now.at) }
 {
-    let Some(one) = mention_at(alloc, document, at)? else {
+    let Some(one) = mention_at(alloc, cursor)? else {
         return Ok(None);
     };
     if is_key(one.role) {
         return Ok(None);
     }
-    let name = part(document.text.as_slice(), one.from, one.to);
+    let name = part(cursor.document.text.as_slice(), one.from, one.to);
     let found = macro_places(alloc, paper, editor, name)?;
     Ok(Some(found))
 }

@@ -7,7 +7,7 @@ ghost use Rattle.serde_json.specs.View.{view};
 ghost use Rattle.bt_talk.specs.Replies.{outcome_of};
 ghost use Rattle.bt_mentions.specs.KeyBytes.{is_key_byte};
 ghost use Rattle.bt_places.specs.Shapes.{range_of};
-ghost use Rattle.bt_answers.specs.Renaming.{text_edit, file_edit, are_renamed, with_file_edit, is_new_key, can_be_named, renamed, is_free, is_lent, is_defined, renamed_by, is_named, renamed_at, range_if_defined, name_range_at};
+ghost use Rattle.bt_answers.specs.Renaming.{file_edit, are_renamed, with_file_edit, is_new_key, can_be_named, renamed, is_free, is_lent, is_defined, renamed_by, is_named, rename_at, range_if_defined, name_range_at};
 
 use crate::edit_values::edit_values;
 use crate::lending::Loan;
@@ -16,37 +16,17 @@ use crate::references::{Search, Wanted, is_mentioned, wanted_of};
 use bt_documents::Document;
 use bt_mentions::{Mention, is_key_byte, part};
 use bt_places::{
-    Editor, Paper, SHOWN_BYTES, Visit, is_any, is_key, mention_at, range_of, with_files,
+    Cursor, Editor, Paper, SHOWN_BYTES, Visit, is_any, is_key, mention_at, range_of, with_files,
     with_texts, with_value,
 };
-use bt_positions::{Counting, IndexedText, Position};
+use bt_positions::IndexedText;
 use bt_rpc::RpcError;
+use bt_shapes::file_edit;
 pub use bt_shapes::workspace_edit;
-use bt_shapes::{file_edit, text_edit};
 use bt_style_answers::Lent;
 use bt_text::{eq_ignore_ascii_case, is_name};
 use serde_json::Value;
 use std::alloc::{AllocError, Global};
-
-/// Adds the edit that replaces a part of a text.
-pub fn with_text_edit(
-    alloc: Global,
-    counting: Counting,
-    text: &IndexedText,
-    list: Vec<Value>,
-    from: usize,
-    to: usize,
-    new: &[u8],
-) -> Result<Vec<Value>, AllocError>
-    requires { 2 * length text.now < 2 ^ 64 }
-    ensures { IfOk result (λ all. map view all.items ≡
-        map view list.items ++ text_edit (range_of counting text.now from to) new.now ∷ []) }
-{
-    let range = range_of(alloc, counting, text, from, to)?;
-    let edit = text_edit(alloc, range, new)?;
-    let all = with_value(list, edit)?;
-    Ok(all)
-}
 
 pub fn with_edits(
     alloc: Global,
@@ -247,30 +227,30 @@ fn is_named(text: &[u8], one: Mention) -> bool
 }
 
 /// The edits that give the key or the macro at a position of a document a new name, in all files; null if there is none.
-pub fn renamed_at<P: Paper>(
+pub fn rename_at<P: Paper>(
     alloc: Global,
     paper: &P,
     editor: &Editor<'_>,
-    document: &Document,
-    at: Position,
+    cursor: &Cursor<'_>,
     new: Option<&str>,
 ) -> Result<Result<Value, RpcError>, AllocError>
-    ensures { IfOk result (λ o. outcome_of o ≡ renamed_at (P.shown paper.now).files editor.now.documents.now editor.now.counting
-        document.now at (option_map (λ s. s.now) new.entry)) }
+    ensures { IfOk result (λ o. outcome_of o ≡ rename_at (P.shown paper.now).files editor.now.documents.now editor.now.counting
+        cursor.now.document.now cursor.now.at (option_map (λ s. s.now) new.entry)) }
 {
     let Some(new) = new else {
         return Ok(Err(RpcError::InvalidParams));
     };
-    let Some(one) = mention_at(alloc, document, at)? else {
+    let Some(one) = mention_at(alloc, cursor)? else {
         return Ok(Ok(Value::Null));
     };
-    if !is_named(document.text.as_slice(), one) {
+    let text = cursor.document.text.as_slice();
+    if !is_named(text, one) {
         return Ok(Ok(Value::Null));
     }
     let renaming = Renaming {
         editor: *editor,
         wanted: wanted_of(one.role),
-        old: part(document.text.as_slice(), one.from, one.to),
+        old: part(text, one.from, one.to),
         new: new.as_bytes(),
     };
     let outcome = renamed_if_free(alloc, paper, &renaming)?;
@@ -302,16 +282,16 @@ pub fn name_range_at<P: Paper>(
     alloc: Global,
     paper: &P,
     editor: &Editor<'_>,
-    document: &Document,
-    at: Position,
+    cursor: &Cursor<'_>,
 ) -> Result<Result<Value, RpcError>, AllocError>
     ensures { IfOk result (λ o. outcome_of o ≡
-        name_range_at (P.shown paper.now).files editor.now.documents.now editor.now.counting document.now at) }
+        name_range_at (P.shown paper.now).files editor.now.documents.now editor.now.counting cursor.now.document.now cursor.now.at) }
 {
+    let document = cursor.document;
     if document.text.as_slice().len() > SHOWN_BYTES {
         return Ok(Ok(Value::Null));
     }
-    let Some(one) = mention_at(alloc, document, at)? else {
+    let Some(one) = mention_at(alloc, cursor)? else {
         return Ok(Ok(Value::Null));
     };
     if !is_named(document.text.as_slice(), one) {

@@ -6,10 +6,10 @@ ghost use Rattle.bt_answers.specs.Symbols.{query_of, contains, number_of, is_sym
 
 use bt_mentions::{Mention, Role, part};
 use bt_places::{
-    Editor, Paper, Pick, Visit, location, range_of, shown, text_at, with_files, with_picked,
-    with_value,
+    Editor, NamedText, Paper, Pick, Visit, location, range_of, shown, text_at, with_files,
+    with_picked, with_value,
 };
-use bt_positions::{Counting, IndexedText};
+use bt_positions::Counting;
 use bt_text::eq_ignore_ascii_case;
 use serde_json::{Value, json};
 use std::alloc::{AllocError, Global};
@@ -70,18 +70,17 @@ fn symbol(alloc: Global, name: &[u8], number: u8, place: Value) -> Result<Value,
 fn with_one(
     alloc: Global,
     counting: Counting,
-    uri: &[u8],
-    text: &IndexedText,
+    file: &NamedText<'_>,
     list: Vec<Value>,
     one: Mention,
 ) -> Result<Vec<Value>, AllocError>
-    requires { 2 * length text.now < 2 ^ 64 }
+    requires { 2 * length file.now.text.now < 2 ^ 64 }
     ensures { IfOk result (λ all. map view all.items ≡
-        map view list.items ++ symbol_at counting uri.now text.now one ∷ []) }
+        map view list.items ++ symbol_at counting file.now.uri.now file.now.text.now one ∷ []) }
 {
-    let range = range_of(alloc, counting, text, one.from, one.to)?;
-    let place = location(alloc, uri, range)?;
-    let name = part(text.as_slice(), one.from, one.to);
+    let range = range_of(alloc, counting, file.text, one.from, one.to)?;
+    let place = location(alloc, file.uri, range)?;
+    let name = part(file.text.as_slice(), one.from, one.to);
     let found = symbol(alloc, name, number_of(one.role), place)?;
     with_value(list, found)
 }
@@ -96,15 +95,14 @@ impl Pick for Query<'_> {
     fn pick(
         &self,
         alloc: Global,
-        uri: &[u8],
-        text: &IndexedText,
+        file: &NamedText<'_>,
         list: Vec<Value>,
         one: Mention,
     ) -> Result<Vec<Value>, AllocError> {
-        if !is_symbol(self.text, text.as_slice(), one) {
+        if !is_symbol(self.text, file.text.as_slice(), one) {
             return Ok(list);
         }
-        with_one(alloc, self.editor.counting_in(uri), uri, text, list, one)
+        with_one(alloc, self.editor.counting_in(file.uri), file, list, one)
     }
 }
 

@@ -6,9 +6,7 @@ ghost use Rattle.bt_answers.specs.Uncited.{uncited_words, uncited_hover, is_unci
 
 use crate::faults::is_some_text;
 use crate::hints::{Names, asks_all, collected};
-use bt_documents::Document;
-use bt_places::{Paper, hover_at, is_database, key_at};
-use bt_positions::Position;
+use bt_places::{Cursor, Paper, hover_at, is_database, key_at};
 use bt_style_answers::hover_contents;
 use bt_text::Bytes;
 use serde_json::Value;
@@ -62,15 +60,15 @@ fn uncited_at<P: Paper>(
     alloc: Global,
     paper: &P,
     plain: bool,
-    document: &Document,
-    at: Position,
+    cursor: &Cursor<'_>,
 ) -> Result<Value, AllocError>
-    ensures { IfOk result (λ v. view v ≡ uncited_at (P.shown paper.now).files plain document.now at) }
+    ensures { IfOk result (λ v. view v ≡ uncited_at (P.shown paper.now).files plain cursor.now.document.now cursor.now.at) }
 {
+    let document = cursor.document;
     if !is_database(document.name.as_slice()) || !document.in_step {
         return Ok(Value::Null);
     }
-    let key = key_at(alloc, document, at)?;
+    let key = key_at(alloc, cursor)?;
     let value = uncited_of(alloc, paper, plain, key.as_slice())?;
     Ok(value)
 }
@@ -81,14 +79,13 @@ pub fn hovered_at<P: Paper>(
     alloc: Global,
     paper: &P,
     plain: bool,
-    document: &Document,
-    at: Position,
+    cursor: &Cursor<'_>,
 ) -> Result<Value, AllocError>
-    ensures { IfOk result (λ v. view v ≡ hovered_at (P.shown paper.now) plain document.now at) }
+    ensures { IfOk result (λ v. view v ≡ hovered_at (P.shown paper.now) plain cursor.now.document.now cursor.now.at) }
 {
-    let lines = hover_at(alloc, paper, plain, document, at)?;
+    let lines = hover_at(alloc, paper, plain, cursor)?;
     if !lines.is_null() {
         return Ok(lines);
     }
-    uncited_at(alloc, paper, plain, document, at)
+    uncited_at(alloc, paper, plain, cursor)
 }

@@ -11,6 +11,14 @@ use bt_positions::{Counting, IndexedText, Position};
 use bt_text::{Bytes, Sequence};
 use std::alloc::{AllocError, Global};
 
+/// The text of the file with this name, in the units of its editor.
+#[derive(Clone, Copy)]
+pub struct FileText<'a> {
+    pub name: &'a [u8],
+    pub counting: Counting,
+    pub text: &'a IndexedText,
+}
+
 /// What an editor shows of a message: its words at a part of the text.
 #[derive(Drop)]
 pub struct Diagnostic {
@@ -80,14 +88,13 @@ fn words_of(alloc: Global, message: &Message) -> Result<Bytes, AllocError>
 /// The part of a document's text at which a message is shown: its place, or else the key that it is about.
 fn span_for(
     alloc: Global,
-    name: &[u8],
-    text: &IndexedText,
+    file: &FileText<'_>,
     keys: &Keys,
     message: &Message,
 ) -> Result<Option<Span>, AllocError>
-    ensures { IfOk result (λ span. span ≡ span_for name.now text.now keys.now.role (known keys.now.spans) message.now) }
+    ensures { IfOk result (λ span. span ≡ span_for file.now.name.now file.now.text.now keys.now.role (known keys.now.spans) message.now) }
 {
-    match span_at(name, text, &message.place) {
+    match span_at(file.name, file.text, &message.place) {
         Some(span) => Ok(Some(span)),
         None => key_span(alloc, keys, message),
     }
@@ -96,18 +103,17 @@ fn span_for(
 /// The diagnostic of a message in a document; none if it belongs elsewhere or isn't shown.
 fn diagnostic_of(
     alloc: Global,
-    name: &[u8],
-    counting: Counting,
-    text: &IndexedText,
+    file: &FileText<'_>,
     keys: &Keys,
     message: &Message,
 ) -> Result<Option<Diagnostic>, AllocError>
-    requires { 2 * length text.now < 2 ^ 64 }
-    ensures { IfOk result (λ shown. shown ≡
-        diagnostic_of name.now counting text.now keys.now.role (known keys.now.spans) message.now) }
+    requires { 2 * length file.now.text.now < 2 ^ 64 }
+    ensures { IfOk result (λ shown. shown ≡ diagnostic_of file.now.name.now file.now.counting file.now.text.now
+        keys.now.role (known keys.now.spans) message.now) }
 {
+    let FileText { counting, text, .. } = *file;
     let len = text.as_slice().len();
-    let span = span_for(alloc, name, text, keys, message)?;
+    let span = span_for(alloc, file, keys, message)?;
     match (severity_of(message.rank), span) {
         (Some(severity), Some(span)) => Ok(Some(Diagnostic {
             from: text.position_of(counting, span.begin.min(len)),
@@ -119,22 +125,20 @@ fn diagnostic_of(
     }
 }
 
-/// The diagnostics of messages in the text of the file with this name, in the order of the messages.
+/// The diagnostics of messages in the text of a file, in the order of the messages.
 pub fn diagnostics(
     alloc: Global,
-    name: &[u8],
-    counting: Counting,
-    text: &IndexedText,
+    file: &FileText<'_>,
     keys: &Keys,
     messages: &[Message],
 ) -> Result<Sequence<Diagnostic>, AllocError>
-    requires { 2 * length text.now < 2 ^ 64 }
-    ensures { IfOk result (λ shown. shown ≡
-        diagnostics name.now counting text.now keys.now.role (known keys.now.spans) messages.now) }
+    requires { 2 * length file.now.text.now < 2 ^ 64 }
+    ensures { IfOk result (λ shown. shown ≡ diagnostics file.now.name.now file.now.counting file.now.text.now
+        keys.now.role (known keys.now.spans) messages.now) }
 {
     let mut shown = Sequence::new(alloc);
     'messages: for message in messages {
-        let diagnostic = diagnostic_of(alloc, name, counting, text, keys, message)?;
+        let diagnostic = diagnostic_of(alloc, file, keys, message)?;
         shown.push_if_any(diagnostic)?;
     }
     Ok(shown)

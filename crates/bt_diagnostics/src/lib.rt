@@ -5,6 +5,6 @@ mod diagnostic;
 mod keys;
 mod spans;
 
-pub use diagnostic::{Diagnostic, diagnostics};
+pub use diagnostic::{Diagnostic, FileText, diagnostics};
 pub use keys::{KeyRole, Keys, is_at_key};
 pub use spans::Span;

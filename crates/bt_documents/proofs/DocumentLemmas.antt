@@ -149,14 +149,18 @@ follows_push text text' x docs none keep step now =
 pub opened_at_the_end : (x : Document) (docs : List Document) → place x.name docs ≡ None → opened x docs ≡ docs ++ x ∷ []
 opened_at_the_end x docs none = opened_is_pushed x docs (none_has x.name docs none)
 
+-- the text of a document that isn't in step doesn't matter
+pub not_in_step : (text : List ℕ → Option (List ℕ)) (d : Document) → d.in_step ≡ false → IsInStep text d
+not_in_step text d e t = absurd (cc)
+
 -- files of which one has the text of a document that was opened
-pub follows_opened : (text text' : List ℕ → Option (List ℕ)) (x : Document) (docs : List Document) →
-    ((other : List ℕ) → bytes_eq other x.name ≡ false → text' other ≡ text other) → IsInStep text' x → Follows text docs → Follows text' (opened x docs)
-follows_opened text text' x docs keep step now = go (place x.name docs) refl
+pub follows_opened : (text : List ℕ → Option (List ℕ)) (x : Document) (docs new : List Document) →
+    new ≡ opened x docs → x.in_step ≡ false → Follows text docs → Follows text new
+follows_opened text x docs new is behind now = subst (Follows text) (sym is) (go (place x.name docs) refl)
   where
-    go : (o : Option ℕ) → place x.name docs ≡ o → Follows text' (opened x docs)
-    go None none = subst (Follows text') (sym (opened_at_the_end x docs none)) (follows_push text text' x docs none keep step now)
-    go (Some n) at = subst (Follows text') (sym (opened_is_set x docs n at)) (follows_set text text' x.name x docs n at refl keep step now)
+    go : (o : Option ℕ) → place x.name docs ≡ o → Follows text (opened x docs)
+    go None none = subst (Follows text) (sym (opened_at_the_end x docs none)) (follows_push text text x docs none (λ other apart. refl) (not_in_step text x behind) now)
+    go (Some n) at = subst (Follows text) (sym (opened_is_set x docs n at)) (follows_set text text x.name x docs n at refl (λ other apart. refl) (not_in_step text x behind) now)
 
 -- A document that is closed
 
@@ -251,10 +255,6 @@ given_set (x ∷ ds) (suc n) d at = (inl refl, given_set ds n d at)
 pub follows_given : (text text' : List ℕ → Option (List ℕ)) (docs : List Document) (n : ℕ) (d : Document) → slice_get docs n ≡ Some d →
     ((other : List ℕ) → bytes_eq other d.name ≡ false → text' other ≡ text other) → text' d.name ≡ Some d.text → Follows text docs → Follows text' (slice_set docs n (record d { in_step = true }))
 follows_given text text' docs n d at keep has now = follows_set text text' d.name (record d { in_step = true }) docs n (once_place docs n d now.once at) refl keep (λ t. has) now
-
--- the text of a document that isn't in step doesn't matter
-pub not_in_step : (text : List ℕ → Option (List ℕ)) (d : Document) → d.in_step ≡ false → IsInStep text d
-not_in_step text d e t = absurd (cc)
 
 -- a document that isn't in step
 pub behind_at : (docs : List Document) (n : ℕ) (d : Document) → slice_get docs n ≡ Some d → d.in_step ≡ false → any_behind docs ≡ true

@@ -13,31 +13,6 @@ use bt_text::{Bytes, Sequence};
 use std::alloc::{AllocError, Global};
 use std::mem;
 
-/// A document whose text the files haven't taken yet.
-fn new_document(
-    alloc: Global,
-    name: &[u8],
-    counting: Counting,
-    version: i64,
-    text: &[u8],
-) -> Result<Document, AllocError>
-    ensures { IfOk result (λ d. d ≡ record {
-      name = name.now;
-      counting = counting;
-      version = version;
-      text = text.now;
-      in_step = false;
-    }) }
-{
-    Ok(Document {
-        name: Bytes::copied(alloc, name)?,
-        counting,
-        version,
-        text: IndexedText::copied(alloc, text)?,
-        in_step: false,
-    })
-}
-
 /// The document after changes, before the files have taken them.
 fn changed(
     alloc: Global,
@@ -89,24 +64,29 @@ fn mark(alloc: Global, documents: &mut Sequence<Document>, place: usize)
 /// Opens a document, which replaces an open one of its name. The files get its text from `give_again`. After an error nothing
 /// has changed.
 pub fn open(
-    alloc: Global,
     documents: &mut Sequence<Document>,
-    name: &[u8],
+    name: Bytes,
     counting: Counting,
     version: i64,
-    text: &[u8],
+    text: IndexedText,
 ) -> Result<(), AllocError>
     ensures documents { IfOk result (λ _. documents.new ≡ opened (record {
-      name = name.now;
+      name = name;
       counting = counting;
       version = version;
-      text = text.now;
+      text = text;
       in_step = false;
     }) documents.old) }
     ensures follows { (text : List ℕ → Option (List ℕ)) → Follows text documents.old → Follows text documents.new }
     ensures err { OnErr result (documents.new ≡ documents.old) }
 {
-    let document = new_document(alloc, name, counting, version, text)?;
+    let document = Document {
+        name,
+        counting,
+        version,
+        text,
+        in_step: false,
+    };
     put(documents, document)?;
     Ok(())
 }

@@ -5,7 +5,6 @@ use Rattle.std.specs.List.{AllByRecursion}
 use Rattle.serde_json.specs.Written.{has_float}
 use Rattle.serde_json.specs.Data.{Data, null}
 use Rattle.serde_json.specs.declared.value.Value.{Value}
-use Rattle.bt_positions.specs.declared.counting.Counting.{Counting}
 use Rattle.bt_positions.specs.declared.indexed_text.Position.{Position}
 use Rattle.bt_rpc.specs.declared.answers.RpcError.{RpcError}
 use Rattle.bt_talk.specs.Handled.{HasNoFloat, IsNote}
@@ -44,7 +43,6 @@ use Rattle.bt_lsp.specs.Complaints.{complaints, complaint, with_complaints}
 use Rattle.bt_lsp.specs.News.{news, all_published, run_name, shown_of, is_run_style, fault_for, style_values, values_of, lost_words, behind_words, warned, warnings, cleared, cleared_at}
 use Rattle.bt_places.specs.Parameters.{wants_declarations, document_of, place_of, text_at, position_at}
 use Rattle.bt_places.specs.Entries.{is_style}
-use Rattle.bt_places.specs.Hover.{key_at, trimmed_start}
 use Rattle.bt_places.specs.Mentioning.{mention_at}
 use Rattle.bt_answers.specs.References.{macro_at}
 use Rattle.bt_answers.specs.Renaming.{mention_range}
@@ -54,35 +52,35 @@ use Rattle.bt_answers.proofs.FeaturePlain.{macro_plain, references_plain, rename
 use Rattle.bt_writing.proofs.FeaturePlain.{actions_plain}
 use Rattle.bt_places.proofs.CompletingPlain.{one_plain}
 use Rattle.bt_writing.proofs.CompletingPlain.{completion_plain}
-use Rattle.bt_lsp.specs.Answering.{text_answer_at, answer_at, text_answer_of, answer_of, paper_answer, run_answer, at_place, at_document, answered}
+use Rattle.bt_lsp.specs.Answering.{text_answer_at, answer_at, text_answer_of, answer_of, paper_answer, run_answer, at_place, at_document, answer_to}
 use Rattle.bt_lsp.specs.Styles.{style_answer_at, style_answer_of, with_style_hints}
 use Rattle.bt_lsp.proofs.PlacingPlain.{messages_plain}
 use Rattle.bt_lsp.proofs.StylePlain.{style_at_plain, style_of_plain, style_hints_plain}
-use Rattle.bt_remarks.specs.declared.checked.Checked.{Checked}
-use Rattle.bt_remarks.specs.declared.step_word.StepWord.{StepWord}
 use Rattle.bt_answers.specs.Keys.{role_of, key_spans}
 use Rattle.bt_lsp.specs.Placing.{found_in}
 use Rattle.bt_style_text.specs.declared.words.Word.{Word}
-use Rattle.bt_lsp.specs.Desk.{queried, IsOutcome, IsFoundOutcome, Tells, Carried}
-use Rattle.bt_places.proofs.PlainLemmas.{published_note, one_note, no_note, hover_lines_plain, plain_from}
+use Rattle.bt_lsp.specs.Desk.{IsOutcome, IsFoundOutcome, Tells, Carried}
+use Rattle.bt_places.proofs.PlainLemmas.{published_note, one_note, no_note, plain_from}
 use Rattle.bt_answers.proofs.PlainLemmas.{hovered_plain, diagnostics_in_plain, symbols_plain, origin_plain}
 use Rattle.bt_writing.proofs.PlainLemmas.{definition_plain}
 
-values_plain : (relates : Bool) (fault : Option Word) (words : List (Option StepWord)) (shown : Shown) (d : Document) → AllByRecursion HasNoFloat (values_of relates fault words shown d)
-values_plain relates fault words shown d =
-    either_plain (is_run_style d) (style_values relates fault words shown d) (diagnostics_in relates d (shown_of shown d))
-    (messages_plain relates d fault (found_in (run_name shown d) d (role_of d.name) (key_spans shown d)) words [] shown.messages tt) (diagnostics_in_plain relates d (shown_of shown d))
+values_plain : {P : Type 0} (shown : P → Shown) (s : Server P) (fault : Option Word) (d : Document) → AllByRecursion HasNoFloat (values_of shown s fault d)
+values_plain shown s fault d =
+    let run = shown s.paper in
+    either_plain (is_run_style d) (style_values shown s fault d) (diagnostics_in s.shows_related d (shown_of run d))
+    (messages_plain s.shows_related d fault (found_in (run_name run d) d (role_of d.name) (key_spans run d)) s.step_words [] run.messages tt) (diagnostics_in_plain s.shows_related d (shown_of run d))
 
-published_notes : (relates : Bool) (words : List (Option StepWord)) (shown : Shown) (checked : List Checked) (docs : List Document) → AllByRecursion IsNote (all_published relates words shown checked docs)
-published_notes relates words shown checked [] = tt
-published_notes relates words shown checked (d ∷ ds) =
-    let fault = fault_for shown d in
-    let found = values_of relates fault words shown d in
-    let faulty = with_faults shown d found in
-    let hinted = with_hints shown.files d faulty in (
-      published_note d.name (with_style_hints checked fault d hinted)
-          (style_hints_plain checked fault d hinted (hints_plain shown.files d faulty (faults_plain shown d found (values_plain relates fault words shown d)))),
-      published_notes relates words shown checked ds,
+published_notes : {P : Type 0} (shown : P → Shown) (s : Server P) (docs : List Document) → AllByRecursion IsNote (all_published shown s docs)
+published_notes shown s [] = tt
+published_notes shown s (d ∷ ds) =
+    let run = shown s.paper in
+    let fault = fault_for run d in
+    let found = values_of shown s fault d in
+    let faulty = with_faults run d found in
+    let hinted = with_hints run.files d faulty in (
+      published_note d.name (with_style_hints s.checked fault d hinted)
+          (style_hints_plain s.checked fault d hinted (hints_plain run.files d faulty (faults_plain run d found (values_plain shown s fault d)))),
+      published_notes shown s ds,
     )
 
 warned_notes : (words : List ℕ) (is_due : Bool) → AllByRecursion IsNote (warned words is_due)
@@ -113,22 +111,22 @@ announced_notes a shown list p =
 complaints_notes : (said words : List ℕ) (list : List Data) → AllByRecursion IsNote list → AllByRecursion IsNote (with_complaints said words list)
 complaints_notes said words list p = no_note (not (is_some_text words) || bytes_eq words said) (complaint words) list (refl, refl) p
 
-told_notes : (a : Announced) (relates : Bool) (step_words : List (Option StepWord)) (shown : Shown) (checked : List Checked) (said words : List ℕ) (lost behind : Bool) (notice : Notice) (m : Data) (docs : List Document) →
-    AllByRecursion IsNote (news a relates step_words shown checked docs (with_complaints said words (warnings lost behind ++ cleared notice m)))
-told_notes a relates step_words shown checked said words lost behind notice m docs =
+told_notes : {P : Type 0} (shown : P → Shown) (s : Server P) (said words : List ℕ) (lost behind : Bool) (notice : Notice) (m : Data) →
+    AllByRecursion IsNote (news shown s (with_complaints said words (warnings lost behind ++ cleared notice m)))
+told_notes shown s said words lost behind notice m =
     let first = warnings lost behind ++ cleared notice m in
-    announced_notes a shown (with_complaints said words first ++ all_published relates step_words shown checked docs)
+    announced_notes s.announced (shown s.paper) (with_complaints said words first ++ all_published shown s s.documents)
     (all_both IsNote (with_complaints said words first) _
     (complaints_notes said words first
-    (all_both IsNote (warnings lost behind) _ (warnings_notes lost behind) (cleared_notes notice m))) (published_notes relates step_words shown checked docs))
+    (all_both IsNote (warnings lost behind) _ (warnings_notes lost behind) (cleared_notes notice m))) (published_notes shown s s.documents))
 
 tells_notes : {P : Type 0} (shown : P → Shown) (d : Server P) (behind : Bool) (notice : Notice) (m : Data) (told : List Data) (e : Server P) →
     Tells shown d behind notice m told e → AllByRecursion IsNote told
 tells_notes shown d behind notice m told e (inl h) =
     let words = complaints (shown e.paper) e.documents in
     subst (AllByRecursion IsNote) (sym h.0)
-    (one_note d.in_progress (progress ending) (news e.announced e.shows_related e.step_words (shown e.paper) e.checked e.documents (with_complaints d.said words (warnings d.lost behind ++ cleared notice m))) (refl, refl)
-    (told_notes e.announced e.shows_related e.step_words (shown e.paper) e.checked d.said words d.lost behind notice m e.documents))
+    (one_note d.in_progress (progress ending) (news shown e (with_complaints d.said words (warnings d.lost behind ++ cleared notice m))) (refl, refl)
+    (told_notes shown e d.said words d.lost behind notice m))
 tells_notes shown d behind notice m told e (inr h) = subst (AllByRecursion IsNote) (sym h.0) tt
 
 -- what is said to a notification that the desk takes
@@ -136,57 +134,66 @@ pub carried_notes : {P : Type 0} (text : P → List ℕ → Option (List ℕ)) (
     Carried text shown d notice m told e → AllByRecursion IsNote told
 carried_notes text shown d notice m told e h = tells_notes shown h.next h.behind notice m told e h.says
 
-text_at_plain : (plain : Bool) (c : Counting) (shown : Shown) (docs : List Document) (query : CursorQuery) (d : Document) (at : Position) (m : Data) → IsPlainData (text_answer_at plain c shown docs query d at m)
-text_at_plain plain c shown docs Hover d at m = hovered_plain shown plain d at
-text_at_plain plain c shown docs Definition d at m = definition_plain shown.files docs c d at (macro_at shown.files docs c d at) (macro_plain shown.files docs c d (mention_at d at))
-text_at_plain plain c shown docs References d at m = references_plain shown.files docs c d (wants_declarations m) (mention_at d at)
-text_at_plain plain c shown docs Rename d at m = renamed_plain shown.files docs c d (mention_at d at) (text_at (codes "/params/newName") m)
-text_at_plain plain c shown docs NameRange d at m =
-    either_outcome (nat_lt 1073741824 (length d.text)) (Ok null) (mention_range shown.files docs c d (mention_at d at)) refl (range_plain shown.files docs c d (mention_at d at))
-text_at_plain plain c shown docs Completion d at m = completion_plain shown.files d at
+text_at_plain : {P : Type 0} (shown : P → Shown) (s : Server P) (query : CursorQuery) (d : Document) (at : Position) (m : Data) → IsPlainData (text_answer_at shown s query d at m)
+text_at_plain shown s Hover d at m = hovered_plain (shown s.paper) s.hovers_plain d at
+text_at_plain shown s Definition d at m =
+    let files = (shown s.paper).files in
+    let c = counting_of s.counts_bytes in
+    definition_plain files s.documents c d at (macro_at files s.documents c d at) (macro_plain files s.documents c d (mention_at d at))
+text_at_plain shown s References d at m =
+    references_plain (shown s.paper).files s.documents (counting_of s.counts_bytes) d (wants_declarations m) (mention_at d at)
+text_at_plain shown s Rename d at m =
+    renamed_plain (shown s.paper).files s.documents (counting_of s.counts_bytes) d (mention_at d at) (text_at (codes "/params/newName") m)
+text_at_plain shown s NameRange d at m =
+    let files = (shown s.paper).files in
+    let c = counting_of s.counts_bytes in
+    either_outcome (nat_lt 1073741824 (length d.text)) (Ok null) (mention_range files s.documents c d (mention_at d at)) refl (range_plain files s.documents c d (mention_at d at))
+text_at_plain shown s Completion d at m = completion_plain (shown s.paper).files d at
 
-at_plain : (found : Found) (plain : Bool) (c : Counting) (shown : Shown) (docs : List Document) (query : CursorQuery) (d : Document) (at : Position) (m : Data) → IsPlainData (answer_at found plain c shown docs query d at m)
-at_plain found plain c shown docs query d at m =
-    either_outcome (is_style d.name) (style_answer_at found.notes plain query d at m) (text_answer_at plain c shown docs query d at m) (style_at_plain found.notes plain query d at m) (text_at_plain plain c shown docs query d at m)
+at_plain : {P : Type 0} (shown : P → Shown) (found : Found) (s : Server P) (query : CursorQuery) (d : Document) (at : Position) (m : Data) → IsPlainData (answer_at shown found s query d at m)
+at_plain shown found s query d at m =
+    either_outcome (is_style d.name) (style_answer_at found s query d at m) (text_answer_at shown s query d at m)
+    (style_at_plain found s query d at m) (text_at_plain shown s query d at m)
 
-place_plain : (found : Found) (plain : Bool) (c : Counting) (shown : Shown) (docs : List Document) (query : CursorQuery) (m : Data) (place : Option (Document × Position)) → IsPlainData (at_place found plain c shown docs query m place)
-place_plain found plain c shown docs query m None = tt
-place_plain found plain c shown docs query m (Some place) = at_plain found plain c shown docs query place.0 place.1 m
+place_plain : {P : Type 0} (shown : P → Shown) (found : Found) (s : Server P) (query : CursorQuery) (m : Data) (place : Option (Document × Position)) → IsPlainData (at_place shown found s query m place)
+place_plain shown found s query m None = tt
+place_plain shown found s query m (Some place) = at_plain shown found s query place.0 place.1 m
 
-text_of_plain : (shown : Shown) (query : DocumentQuery) (d : Document) (m : Data) → has_float (text_answer_of shown query d m) ≡ false
-text_of_plain shown Outline d m = symbols_plain d
-text_of_plain shown Folds d m = folds_plain d
-text_of_plain shown Format d m = formatted_plain d m
-text_of_plain shown Links d m = links_plain shown.files d
-text_of_plain shown Actions d m = actions_plain d (position_at (codes "/params/range/start/line") (codes "/params/range/start/character") m)
+text_of_plain : {P : Type 0} (shown : P → Shown) (s : Server P) (query : DocumentQuery) (d : Document) (m : Data) → has_float (text_answer_of shown s query d m) ≡ false
+text_of_plain shown s Outline d m = symbols_plain d
+text_of_plain shown s Folds d m = folds_plain d
+text_of_plain shown s Format d m = formatted_plain d m
+text_of_plain shown s Links d m = links_plain (shown s.paper).files d
+text_of_plain shown s Actions d m = actions_plain d (position_at (codes "/params/range/start/line") (codes "/params/range/start/character") m)
 
-of_plain : (shown : Shown) (checked : List Checked) (docs : List Document) (query : DocumentQuery) (d : Document) (m : Data) → has_float (answer_of shown checked docs query d m) ≡ false
-of_plain shown checked docs query d m =
-    one_plain (is_style d.name) (style_answer_of checked docs query d m) (text_answer_of shown query d m) (style_of_plain checked docs query d m) (text_of_plain shown query d m)
+of_plain : {P : Type 0} (shown : P → Shown) (s : Server P) (query : DocumentQuery) (d : Document) (m : Data) → has_float (answer_of shown s query d m) ≡ false
+of_plain shown s query d m =
+    one_plain (is_style d.name) (style_answer_of s query d m) (text_answer_of shown s query d m)
+    (style_of_plain s query d m) (text_of_plain shown s query d m)
 
-document_plain : (shown : Shown) (checked : List Checked) (docs : List Document) (query : DocumentQuery) (m : Data) (d : Option Document) → IsPlainData (at_document shown checked docs query m d)
-document_plain shown checked docs query m None = tt
-document_plain shown checked docs query m (Some d) = of_plain shown checked docs query d m
+document_plain : {P : Type 0} (shown : P → Shown) (s : Server P) (query : DocumentQuery) (m : Data) (d : Option Document) → IsPlainData (at_document shown s query m d)
+document_plain shown s query m None = tt
+document_plain shown s query m (Some d) = of_plain shown s query d m
 
-paper_plain : (c : Counting) (shown : Shown) (docs : List Document) (query : PaperQuery) (m : Data) → has_float (paper_answer c shown docs query m) ≡ false
-paper_plain c shown docs Bibliography m = refl
-paper_plain c shown docs Log m = refl
-paper_plain c shown docs Status m = refl
-paper_plain c shown docs Symbols m = found_symbols_plain shown.files docs c m
+paper_plain : {P : Type 0} (shown : P → Shown) (s : Server P) (query : PaperQuery) (m : Data) → has_float (paper_answer shown s query m) ≡ false
+paper_plain shown s Bibliography m = refl
+paper_plain shown s Log m = refl
+paper_plain shown s Status m = refl
+paper_plain shown s Symbols m = found_symbols_plain (shown s.paper).files s.documents (counting_of s.counts_bytes) m
 
 run_plain : (found : Found) (query : RunQuery) → has_float (run_answer found query) ≡ false
 run_plain found Lenses = items_plain (map lens_value found.lenses) (all_mapped lens_value (λ lens. refl) found.lenses)
 run_plain found queries.Origin = origin_plain found.origin
 
 -- the outcome of a request that changes nothing
-pub answered_plain : (found : Found) (plain : Bool) (c : Counting) (shown : Shown) (checked : List Checked) (docs : List Document) (request : Request) (m : Data) → IsPlainData (answered found plain c shown checked docs request m)
-answered_plain found plain c shown checked docs Initialize m = tt
-answered_plain found plain c shown checked docs Shutdown m = tt
-answered_plain found plain c shown checked docs (AtCursor query) m = place_plain found plain c shown docs query m (place_of docs m)
-answered_plain found plain c shown checked docs (OfDocument query) m = document_plain shown checked docs query m (document_of docs m)
-answered_plain found plain c shown checked docs (OfPaper query) m = paper_plain c shown docs query m
-answered_plain found plain c shown checked docs (OfRun query) m = run_plain found query
-answered_plain found plain c shown checked docs Unknown m = tt
+answer_plain : {P : Type 0} (shown : P → Shown) (found : Found) (s : Server P) (m : Data) (request : Request) → IsPlainData (answer_to shown found s m request)
+answer_plain shown found s m Initialize = tt
+answer_plain shown found s m Shutdown = tt
+answer_plain shown found s m (AtCursor query) = place_plain shown found s query m (place_of s.documents m)
+answer_plain shown found s m (OfDocument query) = document_plain shown s query m (document_of s.documents m)
+answer_plain shown found s m (OfPaper query) = paper_plain shown s query m
+answer_plain shown found s m (OfRun query) = run_plain found query
+answer_plain shown found s m Unknown = tt
 
 -- the outcome of a request
 pub outcome_plain : {P : Type 0} (m : Data) (query : Request → Result Data RpcError) (phase : Phase) (request : Request) (d e : Server P) (o : Result Value RpcError) →
@@ -211,4 +218,4 @@ outcome_plain m query Ready Unknown d e o p h = plain_from _ o h.0 (p Unknown)
 pub by_found_plain : {P : Type 0} (shown : P → Shown) (request : Request) (m : Data) (d e : Server P) (o : Result Value RpcError) →
     IsFoundOutcome shown d request m (outcome_of o) e → IsPlain o
 by_found_plain shown request m d e o h =
-    outcome_plain m (queried shown h.0 d m) d.phase request d e o (λ r. answered_plain h.0 d.hovers_plain (counting_of d.counts_bytes) (shown d.paper) d.checked d.documents r m) h.1
+    outcome_plain m (answer_to shown h.0 d m) d.phase request d e o (answer_plain shown h.0 d m) h.1

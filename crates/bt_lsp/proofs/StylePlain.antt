@@ -1,5 +1,5 @@
 -- Answers about styles have no floats.
-use Rattle.std.proofs.Common.{◌≡◌, ℕ, List, ◌++◌, map, length, refl, Bool, false, Option, Some, None, Result, Ok, Err}
+use Rattle.std.proofs.Common.{◌≡◌, ℕ, List, ◌++◌, map, length, refl, false, Option, Some, None, Result, Ok, Err}
 use Rattle.std.specs.Prelude.{codes, nat_lt, ◌||◌, not}
 use Rattle.std.specs.List.{AllByRecursion}
 use Rattle.serde_json.specs.Written.{has_float}
@@ -18,12 +18,14 @@ use Rattle.bt_remarks.specs.declared.checked.Checked.{Checked}
 use Rattle.bt_remarks.specs.Checked.{found_for}
 use Rattle.bt_remarks.specs.Values.{finding}
 use Rattle.bt_remarks.proofs.PlainLemmas.{findings_plain}
+use Rattle.bt_lsp.specs.declared.found.Found.{Found}
+use Rattle.bt_lsp.specs.declared.server.Server.{Server}
 use Rattle.bt_lsp.specs.declared.methods.CursorQuery.{CursorQuery}
 use Rattle.bt_lsp.specs.declared.methods.CursorQuery.TheVariants.{Hover, Definition, References, Rename, NameRange, Completion}
 use Rattle.bt_lsp.specs.declared.methods.DocumentQuery.{DocumentQuery}
 use Rattle.bt_lsp.specs.declared.methods.DocumentQuery.TheVariants.{Outline, Folds, Format, Actions, Links}
 use Rattle.bt_places.specs.Parameters.{text_at, wants_declarations, position_at}
-use Rattle.bt_lsp.specs.Styles.{outcome_for, style_renamed, said_at, said_of, style_answer_at, style_answer_of, with_style_hints}
+use Rattle.bt_lsp.specs.Styles.{outcome_for, rename_outcome, shown_answer_at, shown_answer_of, style_answer_at, style_answer_of, with_style_hints}
 use Rattle.bt_places.specs.Entries.{is_style}
 use Rattle.bt_places.proofs.PlainLists.{IsPlainData, either_outcome, none_or, either_plain}
 use Rattle.bt_writing.proofs.StyleActionsPlain.{actions_plain}
@@ -32,35 +34,35 @@ outcome_for_plain : (r : Result Data RenameRefusal) → OutcomeIsPlain r → IsP
 outcome_for_plain (Ok d) p = p
 outcome_for_plain (Err why) p = tt
 
-renamed_plain : (c : Counting) (uri words : List ℕ) (at : Position) (new : Option (List ℕ)) → IsPlainData (style_renamed c uri words at new)
+renamed_plain : (c : Counting) (uri words : List ℕ) (at : Position) (new : Option (List ℕ)) → IsPlainData (rename_outcome c uri words at new)
 renamed_plain c uri words at None = tt
 renamed_plain c uri words at (Some new) = outcome_for_plain (rename_at c uri words at new) (rename_plain c uri words at new)
 
-said_at_plain : (notes : List ℕ) (plain : Bool) (query : CursorQuery) (c : Counting) (uri words : List ℕ) (at : Position) (m : Data) → IsPlainData (said_at notes plain query c uri words at m)
-said_at_plain notes plain Hover c uri words at m = hover_plain plain c words at notes
-said_at_plain notes plain Definition c uri words at m = definition_plain c uri words at
-said_at_plain notes plain References c uri words at m = references_plain c uri words at (wants_declarations m)
-said_at_plain notes plain Rename c uri words at m = renamed_plain c uri words at (text_at (codes "/params/newName") m)
-said_at_plain notes plain NameRange c uri words at m = outcome_for_plain (renamed_range_at c words at) (renamed_range_plain c words at)
-said_at_plain notes plain Completion c uri words at m = completion_plain c words at
+shown_answer_at_plain : {P : Type 0} (found : Found) (s : Server P) (query : CursorQuery) (c : Counting) (uri words : List ℕ) (at : Position) (m : Data) → IsPlainData (shown_answer_at found s query c uri words at m)
+shown_answer_at_plain found s Hover c uri words at m = hover_plain s.hovers_plain c words at found.notes
+shown_answer_at_plain found s Definition c uri words at m = definition_plain c uri words at
+shown_answer_at_plain found s References c uri words at m = references_plain c uri words at (wants_declarations m)
+shown_answer_at_plain found s Rename c uri words at m = renamed_plain c uri words at (text_at (codes "/params/newName") m)
+shown_answer_at_plain found s NameRange c uri words at m = outcome_for_plain (renamed_range_at c words at) (renamed_range_plain c words at)
+shown_answer_at_plain found s Completion c uri words at m = completion_plain c words at
 
-pub style_at_plain : (notes : List ℕ) (plain : Bool) (query : CursorQuery) (d : Document) (at : Position) (m : Data) → IsPlainData (style_answer_at notes plain query d at m)
-style_at_plain notes plain query d at m =
-    either_outcome (nat_lt 1073741824 (length d.text)) (Ok null) (said_at notes plain query d.counting d.name d.text at m) refl
-    (said_at_plain notes plain query d.counting d.name d.text at m)
+pub style_at_plain : {P : Type 0} (found : Found) (s : Server P) (query : CursorQuery) (d : Document) (at : Position) (m : Data) → IsPlainData (style_answer_at found s query d at m)
+style_at_plain found s query d at m =
+    either_outcome (nat_lt 1073741824 (length d.text)) (Ok null) (shown_answer_at found s query d.counting d.name d.text at m) refl
+    (shown_answer_at_plain found s query d.counting d.name d.text at m)
 
-said_of_plain : (checked : List Checked) (docs : List Document) (query : DocumentQuery) (d : Document) (m : Data) → has_float (said_of checked docs query d m) ≡ false
-said_of_plain checked docs Outline d m = symbols_plain d.counting d.text
-said_of_plain checked docs Folds d m = folds_plain d.counting d.text
-said_of_plain checked docs Format d m = refl
-said_of_plain checked docs Actions d m =
-    actions_plain checked docs d (position_at (codes "/params/range/start/line") (codes "/params/range/start/character") m)
+shown_answer_of_plain : {P : Type 0} (s : Server P) (query : DocumentQuery) (d : Document) (m : Data) → has_float (shown_answer_of s query d m) ≡ false
+shown_answer_of_plain s Outline d m = symbols_plain d.counting d.text
+shown_answer_of_plain s Folds d m = folds_plain d.counting d.text
+shown_answer_of_plain s Format d m = refl
+shown_answer_of_plain s Actions d m =
+    actions_plain s.checked s.documents d (position_at (codes "/params/range/start/line") (codes "/params/range/start/character") m)
     (position_at (codes "/params/range/end/line") (codes "/params/range/end/character") m)
-said_of_plain checked docs Links d m = refl
+shown_answer_of_plain s Links d m = refl
 
-pub style_of_plain : (checked : List Checked) (docs : List Document) (query : DocumentQuery) (d : Document) (m : Data) → has_float (style_answer_of checked docs query d m) ≡ false
-style_of_plain checked docs query d m =
-    none_or (nat_lt 1073741824 (length d.text)) (said_of checked docs query d m) (said_of_plain checked docs query d m)
+pub style_of_plain : {P : Type 0} (s : Server P) (query : DocumentQuery) (d : Document) (m : Data) → has_float (style_answer_of s query d m) ≡ false
+style_of_plain s query d m =
+    none_or (nat_lt 1073741824 (length d.text)) (shown_answer_of s query d m) (shown_answer_of_plain s query d m)
 
 pub style_hints_plain : (checked : List Checked) (fault : Option Word) (d : Document) (list : List Data) → AllByRecursion HasNoFloat list → AllByRecursion HasNoFloat (with_style_hints checked fault d list)
 style_hints_plain checked fault d list p =

@@ -23,8 +23,7 @@ use Rattle.bt_lsp.specs.Progress.{shows_progress, with_end}
 use Rattle.bt_answers.specs.Related.{shows_related}
 use Rattle.bt_lsp.specs.Watching.{watches_files, greeting}
 use Rattle.bt_places.specs.Shown.{Shown}
-use Rattle.bt_places.specs.Words.{counting_of}
-use Rattle.bt_lsp.specs.Answering.{answered}
+use Rattle.bt_lsp.specs.Answering.{answer_to}
 use Rattle.bt_places.specs.Shapes.{capabilities}
 use Rattle.bt_lsp.specs.News.{news, warnings, cleared}
 use Rattle.bt_lsp.specs.Complaints.{complaints, with_complaints}
@@ -93,17 +92,15 @@ IsOutcome m query Ready (OfPaper q) d outcome e = (outcome ≡ query (OfPaper q)
 IsOutcome m query Ready (OfRun q) d outcome e = (outcome ≡ query (OfRun q)) × (e ≡ d)
 IsOutcome m query Ready Unknown d outcome e = (outcome ≡ query Unknown) × (e ≡ d)
 
--- The news of a desk that complains so: warnings, the complaint unless it was said before, the diagnostics of each open
+-- The news of a desk that complains so: what comes first, the complaint unless it was said before, the diagnostics of each open
 -- document, what is announced, and that the first run has ended, if it was said to begin.
-abbrev pub news_with : {P : Type 0} → (P → Shown) → List ℕ → Bool → Bool → List ℕ → Bool → Notice → Data → Server P → List Data
-news_with shown words lost running said behind notice m e =
-    with_end running (news e.announced e.shows_related e.step_words (shown e.paper) e.checked e.documents
-    (with_complaints said words (warnings lost behind ++ cleared notice m)))
+abbrev pub news_with : {P : Type 0} → (P → Shown) → List ℕ → Bool → List ℕ → List Data → Server P → List Data
+news_with shown words running said first e = with_end running (news shown e (with_complaints said words first))
 
--- the news of a desk, which complains of errors about files for which no document has a place
+-- the news of a desk: warnings first, and it complains of errors about files for which no document has a place
 abbrev pub news_of : {P : Type 0} → (P → Shown) → Bool → Bool → List ℕ → Bool → Notice → Data → Server P → List Data
 news_of shown lost running said behind notice m e =
-    news_with shown (complaints (shown e.paper) e.documents) lost running said behind notice m e
+    news_with shown (complaints (shown e.paper) e.documents) running said (warnings lost behind ++ cleared notice m) e
 
 -- the desk before, with what the desk after says of what was told and found
 abbrev pub with_told : {P : Type 0} → Server P → Server P → Server P
@@ -211,15 +208,10 @@ abbrev pub SettledIf : {P : Type 0} → Begins P → (P → List ℕ → Option 
 SettledIf begins text shown false d m told e = (told ≡ []) × (e ≡ d)
 SettledIf begins text shown true d m told e = TakenUp begins text shown d Other m told e
 
--- the outcome of a request that changes nothing, by what is found out for it
-abbrev pub queried : {P : Type 0} → (P → Shown) → Found → Server P → Data → Request → Result Data RpcError
-queried shown found d m request =
-    answered found d.hovers_plain (counting_of d.counts_bytes) (shown d.paper) d.checked d.documents request m
-
 -- the outcome of a request, by what is found out for it
 abbrev pub IsOutcomeBy : {P : Type 0} → (P → Shown) → Found → Server P → Request → Data → Result Data RpcError →
     Server P → Type 0
-IsOutcomeBy shown found d request m outcome e = IsOutcome m (queried shown found d m) d.phase request d outcome e
+IsOutcomeBy shown found d request m outcome e = IsOutcome m (answer_to shown found d m) d.phase request d outcome e
 
 -- the outcome of a request, by what may be found out for it
 abbrev pub IsFoundOutcome : {P : Type 0} → (P → Shown) → Server P → Request → Data → Result Data RpcError → Server P →

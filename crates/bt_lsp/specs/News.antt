@@ -8,7 +8,7 @@ use Rattle.bt_diagnostics.specs.Diagnostics.{diagnostics}
 use Rattle.bt_lsp.specs.declared.methods.Notice.{Notice}
 use Rattle.bt_lsp.specs.declared.methods.Notice.TheVariants.{Opened, Changed, Closed, Saved, Exit, Other}
 use Rattle.bt_places.specs.Shown.{Shown}
-use Rattle.bt_lsp.specs.declared.announcing.Announced.{Announced}
+use Rattle.bt_lsp.specs.declared.server.Server.{Server}
 use Rattle.bt_lsp.specs.Announcing.{with_announced}
 use Rattle.bt_places.specs.Parameters.{text_at}
 use Rattle.bt_places.specs.Entries.{is_style, is_tex, or_empty}
@@ -20,8 +20,6 @@ use Rattle.bt_places.specs.Shapes.{published}
 use Rattle.bt_lsp.specs.Placing.{fault_in, found_in, with_messages}
 use Rattle.bt_lsp.specs.Styles.{with_style_hints}
 use Rattle.bt_style_text.specs.declared.words.Word.{Word}
-use Rattle.bt_remarks.specs.declared.checked.Checked.{Checked}
-use Rattle.bt_remarks.specs.declared.step_word.StepWord.{StepWord}
 
 -- the name that the run has for a document's file; empty if it has none
 abbrev pub run_name : Shown → Document → List ℕ
@@ -48,30 +46,30 @@ abbrev pub fault_for : Shown → Document → Option Word
 fault_for shown d = if is_run_style d then fault_in (run_name shown d) d.text shown.messages else None
 
 -- the diagnostics of the run's style, at words
-abbrev pub style_values : Bool → Option Word → List (Option StepWord) → Shown → Document → List Data
-style_values relates fault words shown d =
-    with_messages relates d fault (found_in (run_name shown d) d (role_of d.name) (key_spans shown d)) words [] shown.messages
+abbrev pub style_values : {P : Type 0} → (P → Shown) → Server P → Option Word → Document → List Data
+style_values shown s fault d =
+    with_messages s.shows_related d fault
+    (found_in (run_name (shown s.paper) d) d (role_of d.name) (key_spans (shown s.paper) d)) s.step_words [] (shown s.paper).messages
 
 -- the diagnostics of a document in the form of the protocol
-abbrev pub values_of : Bool → Option Word → List (Option StepWord) → Shown → Document → List Data
-values_of relates fault words shown d =
-    if is_run_style d then style_values relates fault words shown d else diagnostics_in relates d (shown_of shown d)
+abbrev pub values_of : {P : Type 0} → (P → Shown) → Server P → Option Word → Document → List Data
+values_of shown s fault d =
+    if is_run_style d then style_values shown s fault d else diagnostics_in s.shows_related d (shown_of (shown s.paper) d)
 
 -- the notification that publishes them, errors about files at their names, the hints, and what the check of a style found
-abbrev pub published_of : Bool → List (Option StepWord) → Shown → List Checked → Document → Data
-published_of relates words shown checked d =
-    let fault = fault_for shown d in
-    published d.name (with_style_hints checked fault d (with_hints shown.files d
-    (with_faults shown d (values_of relates fault words shown d))))
+abbrev pub published_of : {P : Type 0} → (P → Shown) → Server P → Document → Data
+published_of shown s d =
+    let fault = fault_for (shown s.paper) d in
+    published d.name (with_style_hints s.checked fault d (with_hints (shown s.paper).files d
+    (with_faults (shown s.paper) d (values_of shown s fault d))))
 
 -- the diagnostics of each open document
-abbrev pub all_published : Bool → List (Option StepWord) → Shown → List Checked → List Document → List Data
-all_published relates words shown checked docs = map (published_of relates words shown checked) docs
+abbrev pub all_published : {P : Type 0} → (P → Shown) → Server P → List Document → List Data
+all_published shown s docs = map (published_of shown s) docs
 
 -- what comes first, then the diagnostics of each open document, and what is announced
-abbrev pub news : Announced → Bool → List (Option StepWord) → Shown → List Checked → List Document → List Data → List Data
-news announced relates words shown checked docs first =
-    with_announced announced shown (first ++ all_published relates words shown checked docs)
+abbrev pub news : {P : Type 0} → (P → Shown) → Server P → List Data → List Data
+news shown s first = with_announced s.announced (shown s.paper) (first ++ all_published shown s s.documents)
 
 -- what the editor is told if a message was lost
 abbrev pub lost_words : List ℕ

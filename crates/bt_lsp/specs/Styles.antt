@@ -1,5 +1,5 @@
 -- Answers about documents that are styles.
-use Rattle.std.specs.Prelude.{ℕ, nat_lt, Bool, ◌||◌, not, if◌then◌else◌, List, ◌++◌, map, length, codes, Option, Some, None, Result, Ok, Err}
+use Rattle.std.specs.Prelude.{ℕ, nat_lt, ◌||◌, not, if◌then◌else◌, List, ◌++◌, map, length, codes, Option, Some, None, Result, Ok, Err}
 use Rattle.serde_json.specs.Data.{Data, null}
 use Rattle.bt_positions.specs.declared.counting.Counting.{Counting}
 use Rattle.bt_positions.specs.declared.indexed_text.Position.{Position}
@@ -19,6 +19,8 @@ use Rattle.bt_style_answers.specs.Hinting.{hints_in}
 use Rattle.bt_remarks.specs.declared.checked.Checked.{Checked}
 use Rattle.bt_remarks.specs.Checked.{found_for}
 use Rattle.bt_remarks.specs.Values.{finding}
+use Rattle.bt_lsp.specs.declared.found.Found.{Found}
+use Rattle.bt_lsp.specs.declared.server.Server.{Server}
 use Rattle.bt_lsp.specs.declared.methods.CursorQuery.{CursorQuery}
 use Rattle.bt_lsp.specs.declared.methods.CursorQuery.TheVariants.{Hover, Definition, References, Rename, NameRange, Completion}
 use Rattle.bt_lsp.specs.declared.methods.DocumentQuery.{DocumentQuery}
@@ -39,37 +41,37 @@ outcome_for (Ok d) = Ok d
 outcome_for (Err why) = Err (error_of why)
 
 -- the edits of a rename
-abbrev pub style_renamed : Counting → List ℕ → List ℕ → Position → Option (List ℕ) → Result Data RpcError
-style_renamed c uri words at None = Err InvalidParams
-style_renamed c uri words at (Some new) = outcome_for (rename_at c uri words at new)
+abbrev pub rename_outcome : Counting → List ℕ → List ℕ → Position → Option (List ℕ) → Result Data RpcError
+rename_outcome c uri words at None = Err InvalidParams
+rename_outcome c uri words at (Some new) = outcome_for (rename_at c uri words at new)
 
--- What is said of a position of a style's text. The notes are what was found out about the stack there.
-abbrev pub said_at : List ℕ → Bool → CursorQuery → Counting → List ℕ → List ℕ → Position → Data →
+-- the answer at a position of a style's text
+abbrev pub shown_answer_at : {P : Type 0} → Found → Server P → CursorQuery → Counting → List ℕ → List ℕ → Position → Data →
     Result Data RpcError
-said_at notes plain Hover c uri words at m = Ok (hover_at plain c words at notes)
-said_at notes plain Definition c uri words at m = Ok (definition_at c uri words at)
-said_at notes plain References c uri words at m = Ok (references_at c uri words at (wants_declarations m))
-said_at notes plain Rename c uri words at m = style_renamed c uri words at (text_at (codes "/params/newName") m)
-said_at notes plain NameRange c uri words at m = outcome_for (renamed_range_at c words at)
-said_at notes plain Completion c uri words at m = Ok (completion_at c words at)
+shown_answer_at found s Hover c uri words at m = Ok (hover_at s.hovers_plain c words at found.notes)
+shown_answer_at found s Definition c uri words at m = Ok (definition_at c uri words at)
+shown_answer_at found s References c uri words at m = Ok (references_at c uri words at (wants_declarations m))
+shown_answer_at found s Rename c uri words at m = rename_outcome c uri words at (text_at (codes "/params/newName") m)
+shown_answer_at found s NameRange c uri words at m = outcome_for (renamed_range_at c words at)
+shown_answer_at found s Completion c uri words at m = Ok (completion_at c words at)
 
 -- the answer at a position of a style of at most 1 GiB
-abbrev pub style_answer_at : List ℕ → Bool → CursorQuery → Document → Position → Data → Result Data RpcError
-style_answer_at notes plain query d at m = if nat_lt 1073741824 (length d.text) then Ok null
-    else said_at notes plain query d.counting d.name d.text at m
+abbrev pub style_answer_at : {P : Type 0} → Found → Server P → CursorQuery → Document → Position → Data → Result Data RpcError
+style_answer_at found s query d at m = if nat_lt 1073741824 (length d.text) then Ok null
+    else shown_answer_at found s query d.counting d.name d.text at m
 
--- what is said of a style's text
-abbrev pub said_of : List Checked → List Document → DocumentQuery → Document → Data → Data
-said_of checked docs Outline d m = symbols_in d.counting d.text
-said_of checked docs Folds d m = folds_in d.counting d.text
-said_of checked docs Format d m = null
-said_of checked docs Actions d m = actions_in_style checked docs d m
-said_of checked docs Links d m = null
+-- the answer for a style's text
+abbrev pub shown_answer_of : {P : Type 0} → Server P → DocumentQuery → Document → Data → Data
+shown_answer_of s Outline d m = symbols_in d.counting d.text
+shown_answer_of s Folds d m = folds_in d.counting d.text
+shown_answer_of s Format d m = null
+shown_answer_of s Actions d m = actions_in_style s.checked s.documents d m
+shown_answer_of s Links d m = null
 
 -- the answer for a style of at most 1 GiB
-abbrev pub style_answer_of : List Checked → List Document → DocumentQuery → Document → Data → Data
-style_answer_of checked docs query d m =
-    if nat_lt 1073741824 (length d.text) then null else said_of checked docs query d m
+abbrev pub style_answer_of : {P : Type 0} → Server P → DocumentQuery → Document → Data → Data
+style_answer_of s query d m =
+    if nat_lt 1073741824 (length d.text) then null else shown_answer_of s query d m
 
 -- what was found in a document's present text, each finding as one diagnostic at its place, in order
 abbrev pub findings_of : List Checked → Document → List Data

@@ -50,35 +50,6 @@ fn with_note(
     with_value(list, note)
 }
 
-fn with_text_note(
-    alloc: Global,
-    method: &str,
-    text: &[u8],
-    status: u8,
-    list: Vec<Value>,
-) -> Result<Vec<Value>, AllocError>
-    ensures { IfOk result (λ all. map view all.items ≡
-        map view list.items ++ notification method.now (shown_text text.now status) ∷ []) }
-{
-    let params = shown_text(alloc, text, status)?;
-    let all = with_note(alloc, method, &params, list)?;
-    Ok(all)
-}
-
-fn with_status_note(
-    alloc: Global,
-    method: &str,
-    status: u8,
-    list: Vec<Value>,
-) -> Result<Vec<Value>, AllocError>
-    ensures { IfOk result (λ all. map view all.items ≡
-        map view list.items ++ notification method.now (shown_status status) ∷ []) }
-{
-    let params = shown_status(alloc, status)?;
-    let all = with_note(alloc, method, &params, list)?;
-    Ok(all)
-}
-
 fn with_bibliography<P: Paper>(
     alloc: Global,
     paper: &P,
@@ -90,9 +61,8 @@ fn with_bibliography<P: Paper>(
     if !is_asked {
         return Ok(list);
     }
-    let text = paper.bibliography();
-    let status = paper.status();
-    let all = with_text_note(alloc, "bibtex/bbl", text, status, list)?;
+    let params = shown_text(alloc, paper.bibliography(), paper.status())?;
+    let all = with_note(alloc, "bibtex/bbl", &params, list)?;
     Ok(all)
 }
 
@@ -107,9 +77,8 @@ fn with_log<P: Paper>(
     if !is_asked {
         return Ok(list);
     }
-    let text = paper.log();
-    let status = paper.status();
-    let all = with_text_note(alloc, "bibtex/log", text, status, list)?;
+    let params = shown_text(alloc, paper.log(), paper.status())?;
+    let all = with_note(alloc, "bibtex/log", &params, list)?;
     Ok(all)
 }
 
@@ -124,8 +93,8 @@ fn with_status<P: Paper>(
     if !is_asked {
         return Ok(list);
     }
-    let status = paper.status();
-    let all = with_status_note(alloc, "bibtex/status", status, list)?;
+    let params = shown_status(alloc, paper.status())?;
+    let all = with_note(alloc, "bibtex/status", &params, list)?;
     Ok(all)
 }
 

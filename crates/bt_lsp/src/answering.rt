@@ -4,194 +4,173 @@ ghost use Rattle.std.specs.Prelude.{◌≡◌, IfOk};
 ghost use Rattle.serde_json.specs.View.{view};
 ghost use Rattle.bt_talk.specs.Replies.{outcome_of};
 ghost use Rattle.bt_places.specs.Shapes.{shown_text};
-ghost use Rattle.bt_lsp.specs.Answering.{text_answer_at, answer_at, text_answer_of, answer_of, bibliography_answer, paper_answer, run_answer, answered};
+ghost use Rattle.bt_lsp.specs.Answering.{text_answer_at, answer_at, text_answer_of, answer_of, bibliography_answer, paper_answer, run_answer, answer_to};
 
 use crate::found::Found;
 use crate::methods::{CursorQuery, DocumentQuery, PaperQuery, Request, RunQuery};
-use crate::styles::{style_answer_at, style_answer_of};
+use crate::server::Server;
 use bt_answers::{
     folds_of, formatted, hovered_at, lens_values, links_of, name_range_at, origin_value,
-    references_at, renamed_at, symbols_for, symbols_of,
+    references_at, rename_at, symbols_for, symbols_of,
 };
 use bt_documents::Document;
 use bt_places::{
-    Editor, Paper, document_of, is_style, place_of, shown_status, shown_text, text_at,
+    Cursor, Paper, document_of, is_style, place_of, shown_status, shown_text, text_at,
     wants_declarations,
 };
-use bt_positions::Position;
 use bt_rpc::RpcError;
 use bt_writing::{actions_for, completion_at, definition_at};
 use serde_json::Value;
 use std::alloc::{AllocError, Global};
 
-/// The answer at a position of a document that is no style.
-fn text_answer_at<P: Paper>(
-    alloc: Global,
-    plain: bool,
-    paper: &P,
-    editor: &Editor<'_>,
-    query: CursorQuery,
-    document: &Document,
-    at: Position,
-    message: &Value,
-) -> Result<Result<Value, RpcError>, AllocError>
-    ensures { IfOk result (λ o. outcome_of o ≡ text_answer_at plain editor.now.counting (P.shown paper.now) editor.now.documents.now query
-        document.now at (view message.now)) }
-{
-    match query {
-        CursorQuery::Hover => Ok(Ok(hovered_at(alloc, paper, plain, document, at)?)),
-        CursorQuery::Definition => Ok(Ok(definition_at(alloc, paper, editor, document, at)?)),
-        CursorQuery::References => {
-            let with_declarations = wants_declarations(message);
-            Ok(Ok(references_at(alloc, paper, editor, document, at, with_declarations)?))
-        }
-        CursorQuery::Rename => {
-            let new = text_at(message, "/params/newName");
-            renamed_at(alloc, paper, editor, document, at, new)
-        }
-        CursorQuery::NameRange => name_range_at(alloc, paper, editor, document, at),
-        CursorQuery::Completion => Ok(Ok(completion_at(alloc, paper, document, at)?)),
-    }
+/// A request's message, and what its answer depends on: the desk, and what was found out for it.
+#[derive(Drop)]
+pub struct Question<'a, P> {
+    pub alloc: Global,
+    pub server: &'a Server<P>,
+    pub found: &'a Found,
+    pub message: &'a Value,
 }
 
-/// The answer for a document that is no style.
-fn text_answer_of<P: Paper>(
-    alloc: Global,
-    paper: &P,
-    query: DocumentQuery,
-    document: &Document,
-    message: &Value,
-) -> Result<Value, AllocError>
-    ensures { IfOk result (λ v. view v ≡ text_answer_of (P.shown paper.now) query document.now (view message.now)) }
-{
-    match query {
-        DocumentQuery::Outline => symbols_of(alloc, document),
-        DocumentQuery::Folds => folds_of(alloc, document),
-        DocumentQuery::Format => formatted(alloc, document, message),
-        DocumentQuery::Actions => actions_for(alloc, document, message),
-        DocumentQuery::Links => links_of(alloc, paper, document),
-    }
-}
-
-fn answer_at<P: Paper>(
-    alloc: Global,
-    found: &Found,
-    plain: bool,
-    paper: &P,
-    editor: &Editor<'_>,
-    query: CursorQuery,
-    document: &Document,
-    at: Position,
-    message: &Value,
-) -> Result<Result<Value, RpcError>, AllocError>
-    ensures { IfOk result (λ o. outcome_of o ≡ answer_at found.now plain editor.now.counting (P.shown paper.now) editor.now.documents.now query
-        document.now at (view message.now)) }
-{
-    if is_style(document.name.as_slice()) {
-        let notes = found.notes.as_slice();
-        style_answer_at(alloc, notes, plain, query, document, at, message)
-    } else {
-        text_answer_at(alloc, plain, paper, editor, query, document, at, message)
-    }
-}
-
-fn answer_of<P: Paper>(
-    alloc: Global,
-    paper: &P,
-    editor: &Editor<'_>,
-    query: DocumentQuery,
-    document: &Document,
-    message: &Value,
-) -> Result<Value, AllocError>
-    ensures { IfOk result (λ v. view v ≡ answer_of (P.shown paper.now) editor.now.checked.now editor.now.documents.now query
-        document.now (view message.now)) }
-{
-    if is_style(document.name.as_slice()) {
-        style_answer_of(alloc, editor, query, document, message)
-    } else {
-        text_answer_of(alloc, paper, query, document, message)
-    }
-}
-
-fn entry_answer<P: Paper>(alloc: Global, paper: &P, key: &[u8]) -> Result<Value, AllocError>
-    ensures { IfOk result (λ v. view v ≡ shown_text ((P.shown paper.now).entry_text key.now) (P.shown paper.now).status) }
-{
-    let text = paper.entry_text(key)?;
-    shown_text(alloc, text.as_slice(), paper.status())
-}
-
-/// The bibliography, or what one entry prints, if the message has its key.
-fn bibliography_answer<P: Paper>(
-    alloc: Global,
-    paper: &P,
-    message: &Value,
-) -> Result<Value, AllocError>
-    ensures { IfOk result (λ v. view v ≡ bibliography_answer (P.shown paper.now) (view message.now)) }
-{
-    match text_at(message, "/params/key") {
-        Some(key) => entry_answer(alloc, paper, key.as_bytes()),
-        None => shown_text(alloc, paper.bibliography(), paper.status()),
-    }
-}
-
-fn paper_answer<P: Paper>(
-    alloc: Global,
-    paper: &P,
-    editor: &Editor<'_>,
-    query: PaperQuery,
-    message: &Value,
-) -> Result<Value, AllocError>
-    ensures { IfOk result (λ v. view v ≡
-        paper_answer editor.now.counting (P.shown paper.now) editor.now.documents.now query (view message.now)) }
-{
-    match query {
-        PaperQuery::Bibliography => bibliography_answer(alloc, paper, message),
-        PaperQuery::Log => shown_text(alloc, paper.log(), paper.status()),
-        PaperQuery::Status => shown_status(alloc, paper.status()),
-        PaperQuery::Symbols => symbols_for(alloc, paper, editor, message),
-    }
-}
-
-/// The answer about the run, by what was found out for it.
-fn run_answer(alloc: Global, found: &Found, query: RunQuery) -> Result<Value, AllocError>
-    ensures { IfOk result (λ v. view v ≡ run_answer found.now query) }
-{
-    match query {
-        RunQuery::Lenses => lens_values(alloc, found.lenses.as_slice()),
-        RunQuery::Origin => origin_value(alloc, found.origin.as_ref()),
-    }
-}
-
-/// The outcome of a request that changes nothing, by what was found out for it. Hovers are plain text if `plain` holds.
-pub fn answered<P: Paper>(
-    alloc: Global,
-    found: &Found,
-    plain: bool,
-    paper: &P,
-    editor: &Editor<'_>,
-    request: Request,
-    message: &Value,
-) -> Result<Result<Value, RpcError>, AllocError>
-    ensures { IfOk result (λ outcome. outcome_of outcome ≡
-        answered found.now plain editor.now.counting (P.shown paper.now) editor.now.checked.now editor.now.documents.now request
-        (view message.now)) }
-{
-    match request {
-        Request::AtCursor(query) => match place_of(editor.documents, message) {
-            Some((document, at)) => {
-                answer_at(
-                    alloc, found, plain, paper, editor, query, document, at, message,
-                )
+impl<P: Paper> Question<'_, P> {
+    /// The answer at a position of a document that is no style.
+    fn text_answer_at(
+        &self,
+        query: CursorQuery,
+        cursor: &Cursor<'_>,
+    ) -> Result<Result<Value, RpcError>, AllocError>
+        ensures { IfOk result (λ o. outcome_of o ≡
+            text_answer_at P.shown self.now.server.now query cursor.now.document.now cursor.now.at (view self.now.message.now)) }
+    {
+        let alloc = self.alloc;
+        let paper = &self.server.paper;
+        let editor = self.server.editor();
+        match query {
+            CursorQuery::Hover => {
+                let plain = self.server.hovers_plain;
+                Ok(Ok(hovered_at(alloc, paper, plain, cursor)?))
             }
-            None => Ok(Err(RpcError::InvalidParams)),
-        },
-        Request::OfDocument(query) => match document_of(editor.documents, message) {
-            Some(document) => Ok(Ok(answer_of(alloc, paper, editor, query, document, message)?)),
-            None => Ok(Err(RpcError::InvalidParams)),
-        },
-        Request::OfPaper(query) => Ok(Ok(paper_answer(alloc, paper, editor, query, message)?)),
-        Request::OfRun(query) => Ok(Ok(run_answer(alloc, found, query)?)),
-        Request::Initialize | Request::Shutdown => Ok(Err(RpcError::InvalidRequest)),
-        Request::Unknown => Ok(Err(RpcError::MethodNotFound)),
+            CursorQuery::Definition => { Ok(Ok(definition_at(alloc, paper, &editor, cursor)?)) }
+            CursorQuery::References => {
+                let with_declarations = wants_declarations(self.message);
+                Ok(Ok(references_at(alloc, paper, &editor, cursor, with_declarations)?))
+            }
+            CursorQuery::Rename => {
+                let new = text_at(self.message, "/params/newName");
+                rename_at(alloc, paper, &editor, cursor, new)
+            }
+            CursorQuery::NameRange => name_range_at(alloc, paper, &editor, cursor),
+            CursorQuery::Completion => Ok(Ok(completion_at(alloc, paper, cursor)?)),
+        }
+    }
+
+    /// The answer for a document that is no style.
+    fn text_answer_of(&self, query: DocumentQuery, document: &Document) -> Result<Value, AllocError>
+        ensures { IfOk result (λ v. view v ≡
+            text_answer_of P.shown self.now.server.now query document.now (view self.now.message.now)) }
+    {
+        match query {
+            DocumentQuery::Outline => symbols_of(self.alloc, document),
+            DocumentQuery::Folds => folds_of(self.alloc, document),
+            DocumentQuery::Format => formatted(self.alloc, document, self.message),
+            DocumentQuery::Actions => actions_for(self.alloc, document, self.message),
+            DocumentQuery::Links => links_of(self.alloc, &self.server.paper, document),
+        }
+    }
+
+    fn answer_at(
+        &self,
+        query: CursorQuery,
+        cursor: &Cursor<'_>,
+    ) -> Result<Result<Value, RpcError>, AllocError>
+        ensures { IfOk result (λ o. outcome_of o ≡
+            answer_at P.shown self.now.found.now self.now.server.now query cursor.now.document.now cursor.now.at
+            (view self.now.message.now)) }
+    {
+        if is_style(cursor.document.name.as_slice()) {
+            self.style_answer_at(query, cursor)
+        } else {
+            self.text_answer_at(query, cursor)
+        }
+    }
+
+    fn answer_of(&self, query: DocumentQuery, document: &Document) -> Result<Value, AllocError>
+        ensures { IfOk result (λ v. view v ≡
+            answer_of P.shown self.now.server.now query document.now (view self.now.message.now)) }
+    {
+        if is_style(document.name.as_slice()) {
+            self.style_answer_of(query, document)
+        } else {
+            self.text_answer_of(query, document)
+        }
+    }
+
+    fn entry_answer(&self, key: &[u8]) -> Result<Value, AllocError>
+        ensures { IfOk result (λ v. view v ≡ shown_text ((P.shown self.now.server.now.paper).entry_text key.now)
+            (P.shown self.now.server.now.paper).status) }
+    {
+        let paper = &self.server.paper;
+        let text = paper.entry_text(key)?;
+        shown_text(self.alloc, text.as_slice(), paper.status())
+    }
+
+    /// The bibliography, or what one entry prints, if the message has its key.
+    fn bibliography_answer(&self) -> Result<Value, AllocError>
+        ensures { IfOk result (λ v. view v ≡
+            bibliography_answer (P.shown self.now.server.now.paper) (view self.now.message.now)) }
+    {
+        let paper = &self.server.paper;
+        match text_at(self.message, "/params/key") {
+            Some(key) => self.entry_answer(key.as_bytes()),
+            None => shown_text(self.alloc, paper.bibliography(), paper.status()),
+        }
+    }
+
+    fn paper_answer(&self, query: PaperQuery) -> Result<Value, AllocError>
+        ensures { IfOk result (λ v. view v ≡
+            paper_answer P.shown self.now.server.now query (view self.now.message.now)) }
+    {
+        let alloc = self.alloc;
+        let paper = &self.server.paper;
+        match query {
+            PaperQuery::Bibliography => self.bibliography_answer(),
+            PaperQuery::Log => shown_text(alloc, paper.log(), paper.status()),
+            PaperQuery::Status => shown_status(alloc, paper.status()),
+            PaperQuery::Symbols => {
+                symbols_for(alloc, paper, &self.server.editor(), self.message)
+            }
+        }
+    }
+
+    /// The answer about the run, by what was found out for it.
+    fn run_answer(&self, query: RunQuery) -> Result<Value, AllocError>
+        ensures { IfOk result (λ v. view v ≡ run_answer self.now.found.now query) }
+    {
+        match query {
+            RunQuery::Lenses => lens_values(self.alloc, self.found.lenses.as_slice()),
+            RunQuery::Origin => origin_value(self.alloc, self.found.origin.as_ref()),
+        }
+    }
+
+    /// The outcome of a request that changes nothing.
+    pub fn answer_to(&self, request: Request) -> Result<Result<Value, RpcError>, AllocError>
+        ensures { IfOk result (λ outcome. outcome_of outcome ≡
+            answer_to P.shown self.now.found.now self.now.server.now (view self.now.message.now) request) }
+    {
+        let documents = self.server.documents.as_slice();
+        match request {
+            Request::AtCursor(query) => match place_of(documents, self.message) {
+                Some(cursor) => self.answer_at(query, &cursor),
+                None => Ok(Err(RpcError::InvalidParams)),
+            },
+            Request::OfDocument(query) => match document_of(documents, self.message) {
+                Some(document) => Ok(Ok(self.answer_of(query, document)?)),
+                None => Ok(Err(RpcError::InvalidParams)),
+            },
+            Request::OfPaper(query) => Ok(Ok(self.paper_answer(query)?)),
+            Request::OfRun(query) => Ok(Ok(self.run_answer(query)?)),
+            Request::Initialize | Request::Shutdown => Ok(Err(RpcError::InvalidRequest)),
+            Request::Unknown => Ok(Err(RpcError::MethodNotFound)),
+        }
     }
 }

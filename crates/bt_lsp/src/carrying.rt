@@ -1,7 +1,7 @@
 //! Carries out a notification: the paper begins, if it hasn't yet, the documents change, the paper catches up, and the editor
 //! is told the news.
 
-ghost use Rattle.std.specs.Prelude.{◌≡◌, ◌++◌, ◌⊎◌, ◌||◌, is_some, map, IfOk, OnErr, IsTrue};
+ghost use Rattle.std.specs.Prelude.{◌≡◌, ◌⊎◌, ◌||◌, is_some, map, IfOk, OnErr, IsTrue};
 ghost use Rattle.serde_json.specs.View.{view};
 ghost use Rattle.bt_documents.specs.Documents.{AreGiven, any_behind, Follows};
 ghost use Rattle.bt_lsp.specs.Complaints.{complaints};
@@ -10,7 +10,7 @@ ghost use Rattle.bt_lsp.specs.declared.methods.Notice.TheVariants.{Changed};
 
 use crate::complaints::{complaints, with_complaints};
 use crate::methods::Notice;
-use crate::news::{Extras, first_news, is_run_style, news};
+use crate::news::{first_news, is_run_style, news};
 use crate::progress::with_end;
 use crate::server::Server;
 use crate::styles::check_styles;
@@ -60,14 +60,7 @@ fn take_or_lose<P: Paper>(alloc: Global, server: &mut Server<P>, notice: Notice,
       stale = server.new.stale;
     } }
 {
-    match take(
-        alloc,
-        &server.paper,
-        &mut server.documents,
-        server.counts_bytes,
-        notice,
-        message,
-    ) {
+    match take(alloc, server, notice, message) {
         Ok(()) => {
             server.stale = notice.rereads() || server.stale;
         }
@@ -127,34 +120,19 @@ fn all_news<P: Paper>(
     alloc: Global,
     server: &Server<P>,
     complaints: &[u8],
-    behind: bool,
-    notice: Notice,
-    message: &Value,
+    first: Vec<Value>,
 ) -> Result<Vec<Value>, AllocError>
-    ensures { IfOk result (λ told. map view told.items ≡ news_with P.shown complaints.now server.now.lost server.now.in_progress
-        server.now.said behind notice (view message.now) server.now) }
+    ensures { IfOk result (λ told. map view told.items ≡ news_with P.shown complaints.now server.now.in_progress
+        server.now.said (map view first.items) server.now) }
 {
-    let first = first_news(alloc, server.lost, behind, notice, message)?;
     let first = with_complaints(alloc, server.said.as_slice(), complaints, first)?;
-    let extras = Extras {
-        relates: server.shows_related,
-        step_words: server.step_words.as_slice(),
-        checked: server.checked.as_slice(),
-    };
-    let told = news(
-        alloc,
-        &extras,
-        &server.paper,
-        server.documents.as_slice(),
-        server.announced,
-        first,
-    )?;
+    let told = news(alloc, server, first)?;
     let all = with_end(alloc, server.in_progress, told)?;
     Ok(all)
 }
 
 /// The news, and the complaints among it.
-fn told<P: Paper>(
+fn news_and_complaints<P: Paper>(
     alloc: Global,
     server: &Server<P>,
     behind: bool,
@@ -166,8 +144,8 @@ fn told<P: Paper>(
     ensures said { IfOk result (λ r. r.1 ≡ complaints (P.shown server.now.paper) server.now.documents) }
 {
     let said = complaints(alloc, &server.paper, server.documents.as_slice())?;
-    let words = said.as_slice();
-    let told = all_news(alloc, server, words, behind, notice, message)?;
+    let first = first_news(alloc, server.lost, behind, notice, message)?;
+    let told = all_news(alloc, server, said.as_slice(), first)?;
     Ok((told, said))
 }
 
@@ -214,7 +192,7 @@ fn tell<P: Paper + Remarks>(
     ensures rest { server.new ≡ with_told server.old server.new }
 {
     let told = match look(alloc, server) {
-        Ok(()) => told(alloc, server, behind, notice, message),
+        Ok(()) => news_and_complaints(alloc, server, behind, notice, message),
         Err(error) => Err(error),
     };
     match told {

@@ -2,10 +2,11 @@
 //! answer says exactly this.
 
 use crate::methods::{CursorQuery, Request, RunQuery};
+use crate::server::Server;
 use bt_documents::Document;
 use bt_effects::stack_notes;
-use bt_places::{Paper, cursor_of, document_of, is_style, place_of};
-use bt_positions::{Counting, IndexedText, Position};
+use bt_places::{Cursor, Paper, counting_of, cursor_of, document_of, is_style, place_of};
+use bt_positions::IndexedText;
 use bt_remarks::{Lens, Origin};
 use bt_text::{Bytes, Sequence};
 use serde_json::Value;
@@ -33,7 +34,8 @@ fn nothing(alloc: Global) -> Found {
     }
 }
 
-fn notes_at(alloc: Global, document: &Document, at: Position) -> Result<Bytes, AllocError> {
+fn notes_at(alloc: Global, cursor: &Cursor<'_>) -> Result<Bytes, AllocError> {
+    let Cursor { document, at } = *cursor;
     let text = document.text.as_slice();
     if !is_style(document.name.as_slice()) || text.len() > NOTED_BYTES {
         return Ok(Bytes::new(alloc));
@@ -44,23 +46,22 @@ fn notes_at(alloc: Global, document: &Document, at: Position) -> Result<Bytes, A
 
 fn with_notes(alloc: Global, documents: &[Document], message: &Value) -> Result<Found, AllocError> {
     let mut found = nothing(alloc);
-    if let Some((document, at)) = place_of(documents, message) {
-        found.notes = notes_at(alloc, document, at)?;
+    if let Some(cursor) = place_of(documents, message) {
+        found.notes = notes_at(alloc, &cursor)?;
     }
     Ok(found)
 }
 
 fn with_lenses<P: Paper>(
     alloc: Global,
-    paper: &P,
-    documents: &[Document],
+    server: &Server<P>,
     message: &Value,
 ) -> Result<Found, AllocError> {
     let mut found = nothing(alloc);
-    if let Some(document) = document_of(documents, message)
+    if let Some(document) = document_of(server.documents.as_slice(), message)
         && document.in_step
     {
-        found.lenses = paper.lenses(alloc, document.name.as_slice())?;
+        found.lenses = server.paper.lenses(alloc, document.name.as_slice())?;
     }
     Ok(found)
 }
@@ -79,14 +80,14 @@ fn line_and_column(text: &[u8], offset: usize) -> (usize, usize) {
 
 fn with_origin<P: Paper>(
     alloc: Global,
-    counting: Counting,
-    paper: &P,
+    server: &Server<P>,
     message: &Value,
 ) -> Result<Found, AllocError> {
     let mut found = nothing(alloc);
     if let Some(at) = cursor_of(message) {
+        let paper = &server.paper;
         let text = IndexedText::new(alloc, Vec::from_slice(alloc, paper.bibliography())?)?;
-        let offset = text.offset_of(counting, at);
+        let offset = text.offset_of(counting_of(server.counts_bytes), at);
         let (line, column) = line_and_column(text.as_slice(), offset);
         found.origin = paper.origin(alloc, line, column)?;
     }
@@ -96,16 +97,16 @@ fn with_origin<P: Paper>(
 /// What is found out for a request.
 pub fn found_for<P: Paper>(
     alloc: Global,
-    counting: Counting,
-    paper: &P,
-    documents: &[Document],
+    server: &Server<P>,
     request: Request,
     message: &Value,
 ) -> Result<Found, AllocError> {
     match request {
-        Request::AtCursor(CursorQuery::Hover) => with_notes(alloc, documents, message),
-        Request::OfRun(RunQuery::Lenses) => with_lenses(alloc, paper, documents, message),
-        Request::OfRun(RunQuery::Origin) => with_origin(alloc, counting, paper, message),
+        Request::AtCursor(CursorQuery::Hover) => {
+            with_notes(alloc, server.documents.as_slice(), message)
+        }
+        Request::OfRun(RunQuery::Lenses) => with_lenses(alloc, server, message),
+        Request::OfRun(RunQuery::Origin) => with_origin(alloc, server, message),
         _ => Ok(nothing(alloc)),
     }
 }

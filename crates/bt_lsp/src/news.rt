@@ -1,35 +1,24 @@
 //! What the editor is told after a change: the diagnostics of each open document.
 
-ghost use Rattle.std.specs.Prelude.{◌≡◌, ◌<◌, ◌*◌, ◌^◌, ◌++◌, ◌∷◌, [], length, map, IfOk};
+ghost use Rattle.std.specs.Prelude.{◌≡◌, ◌<◌, ◌*◌, ◌^◌, ◌++◌, [], length, map, IfOk};
 ghost use Rattle.serde_json.specs.View.{view};
 ghost use Rattle.bt_lsp.specs.News.{run_name, shows, shown_of, is_run_style, fault_for, style_values, values_of, published_of, warning_params, warning, lost_words, behind_words, warned, warnings, cleared, all_published, news};
 ghost use Rattle.bt_places.specs.Shapes.{published};
 
-use crate::announcing::{Announced, with_announced};
+use crate::announcing::with_announced;
 use crate::methods::Notice;
-use crate::placing::{OpenStyle, fault_in, style_diagnostics};
+use crate::placing::{OpenStyle, fault_in};
+use crate::server::Server;
 use crate::styles::{HINTED_BYTES, with_style_hints};
 use bt_answers::{diagnostics_in, keys_of, with_faults, with_hints};
-use bt_diagnostics::{Diagnostic, diagnostics};
+use bt_diagnostics::{Diagnostic, FileText, diagnostics};
 use bt_documents::Document;
 use bt_places::{Paper, SHOWN_BYTES, is_style, is_tex, published, text_at};
-use bt_remarks::{Checked, StepWord};
 use bt_rpc::notification;
 use bt_style_text::Word;
 use bt_text::Sequence;
 use serde_json::{Value, json};
 use std::alloc::{AllocError, Global};
-
-/// What is shown beside the messages of the run.
-#[derive(Clone, Copy)]
-pub struct Extras<'a> {
-    /// Whether the editor shows places related to a diagnostic.
-    pub relates: bool,
-    /// For each message the word of the run's style that ran when it came.
-    pub step_words: &'a [Option<StepWord>],
-    /// What was found in styles.
-    pub checked: &'a [Checked],
-}
 
 /// The name that the run has for a document's file; empty if it has none.
 pub fn run_name<'a, P: Paper>(paper: &'a P, document: &Document) -> &'a [u8]
@@ -60,14 +49,12 @@ fn shown_of<P: Paper>(
         return Ok(Sequence::new(alloc));
     }
     let keys = keys_of(alloc, paper, document)?;
-    diagnostics(
-        alloc,
-        run_name(paper, document),
-        document.counting,
-        &document.text,
-        &keys,
-        paper.messages(),
-    )
+    let file = FileText {
+        name: run_name(paper, document),
+        counting: document.counting,
+        text: &document.text,
+    };
+    diagnostics(alloc, &file, &keys, paper.messages())
 }
 
 /// Whether a document is a style of which the run has the text, and small enough to be read several times.
@@ -101,59 +88,58 @@ fn fault_for<P: Paper>(
 /// The diagnostics of a style, at its words.
 fn style_values<P: Paper>(
     alloc: Global,
-    extras: &Extras<'_>,
+    server: &Server<P>,
     fault: Option<Word>,
-    paper: &P,
     document: &Document,
 ) -> Result<Vec<Value>, AllocError>
     requires { 2 * length document.now.text < 2 ^ 64 }
-    ensures { IfOk result (λ list. map view list.items ≡
-        style_values extras.now.relates fault extras.now.step_words.now (P.shown paper.now) document.now) }
+    ensures { IfOk result (λ list. map view list.items ≡ style_values P.shown server.now fault document.now) }
 {
+    let paper = &server.paper;
     let keys = keys_of(alloc, paper, document)?;
     let style = OpenStyle {
+        alloc,
         name: run_name(paper, document),
         document,
         keys: &keys,
         fault,
-        relates: extras.relates,
+        relates: server.shows_related,
     };
-    let list = style_diagnostics(alloc, &style, extras.step_words, paper.messages())?;
+    let words = server.step_words.as_slice();
+    let list = style.all_diagnostics(words, paper.messages())?;
     Ok(list)
 }
 
 fn values_of<P: Paper>(
     alloc: Global,
-    extras: &Extras<'_>,
+    server: &Server<P>,
     fault: Option<Word>,
-    paper: &P,
     document: &Document,
 ) -> Result<Vec<Value>, AllocError>
-    ensures { IfOk result (λ list. map view list.items ≡
-        values_of extras.now.relates fault extras.now.step_words.now (P.shown paper.now) document.now) }
+    ensures { IfOk result (λ list. map view list.items ≡ values_of P.shown server.now fault document.now) }
 {
     if is_run_style(document) {
-        return style_values(alloc, extras, fault, paper, document);
+        return style_values(alloc, server, fault, document);
     }
-    let shown = shown_of(alloc, paper, document)?;
-    let list = diagnostics_in(alloc, extras.relates, document, shown.as_slice())?;
+    let shown = shown_of(alloc, &server.paper, document)?;
+    let list = diagnostics_in(alloc, server.shows_related, document, shown.as_slice())?;
     Ok(list)
 }
 
+/// The notification that publishes the diagnostics of a document.
 fn published_of<P: Paper>(
     alloc: Global,
-    extras: &Extras<'_>,
-    paper: &P,
+    server: &Server<P>,
     document: &Document,
 ) -> Result<Value, AllocError>
-    ensures { IfOk result (λ v. view v ≡ published_of extras.now.relates extras.now.step_words.now (P.shown paper.now)
-        extras.now.checked.now document.now) }
+    ensures { IfOk result (λ v. view v ≡ published_of P.shown server.now document.now) }
 {
+    let paper = &server.paper;
     let fault = fault_for(alloc, paper, document)?;
-    let list = values_of(alloc, extras, fault, paper, document)?;
+    let list = values_of(alloc, server, fault, document)?;
     let list = with_faults(alloc, paper, document, list)?;
     let list = with_hints(alloc, paper, document, list)?;
-    let list = with_style_hints(alloc, extras.checked, fault, document, list)?;
+    let list = with_style_hints(alloc, server.checked.as_slice(), fault, document, list)?;
     published(alloc, document.name.as_slice(), list)
 }
 
@@ -186,7 +172,7 @@ pub fn warning(alloc: Global, words: &str) -> Result<Value, AllocError>
     Ok(message)
 }
 
-fn warned(alloc: Global, lost: bool) -> Result<Vec<Value>, AllocError>
+fn lost_warning(alloc: Global, lost: bool) -> Result<Vec<Value>, AllocError>
     ensures { IfOk result (λ told. map view told.items ≡ warned lost_words lost) }
 {
     let mut told = Vec::new(alloc);
@@ -197,7 +183,7 @@ fn warned(alloc: Global, lost: bool) -> Result<Vec<Value>, AllocError>
 }
 
 /// Tells the editor that a closed document has no diagnostics.
-fn cleared(alloc: Global, uri: &str) -> Result<Value, AllocError>
+fn no_diagnostics(alloc: Global, uri: &str) -> Result<Value, AllocError>
     ensures { IfOk result (λ v. view v ≡ published uri.now []) }
 {
     published(alloc, uri.as_bytes(), Vec::new(alloc))
@@ -207,7 +193,7 @@ fn cleared(alloc: Global, uri: &str) -> Result<Value, AllocError>
 fn warnings(alloc: Global, lost: bool, behind: bool) -> Result<Vec<Value>, AllocError>
     ensures { IfOk result (λ told. map view told.items ≡ warnings lost behind) }
 {
-    let mut told = warned(alloc, lost)?;
+    let mut told = lost_warning(alloc, lost)?;
     if behind {
         told.push(warning(alloc, behind_words())?)?;
     }
@@ -228,26 +214,24 @@ pub fn first_news(
     if notice == Notice::Closed
         && let Some(uri) = text_at(message, "/params/textDocument/uri")
     {
-        told.push(cleared(alloc, uri)?)?;
+        told.push(no_diagnostics(alloc, uri)?)?;
     }
     Ok(told)
 }
 
-/// Adds the diagnostics of each open document.
+/// Adds the diagnostics of open documents.
 fn with_diagnostics<P: Paper>(
     alloc: Global,
-    extras: &Extras<'_>,
-    paper: &P,
+    server: &Server<P>,
     documents: &[Document],
     first: Vec<Value>,
 ) -> Result<Vec<Value>, AllocError>
     ensures { IfOk result (λ told. map view told.items ≡
-        map view first.items ++ all_published extras.now.relates extras.now.step_words.now (P.shown paper.now)
-        extras.now.checked.now documents.now) }
+        map view first.items ++ all_published P.shown server.now documents.now) }
 {
     let mut told = first;
     'documents: for document in documents {
-        told.push(published_of(alloc, extras, paper, document)?)?;
+        told.push(published_of(alloc, server, document)?)?;
     }
     Ok(told)
 }
@@ -255,17 +239,12 @@ fn with_diagnostics<P: Paper>(
 /// What comes first, then the diagnostics of each open document, and what is announced.
 pub fn news<P: Paper>(
     alloc: Global,
-    extras: &Extras<'_>,
-    paper: &P,
-    documents: &[Document],
-    announced: Announced,
+    server: &Server<P>,
     first: Vec<Value>,
 ) -> Result<Vec<Value>, AllocError>
-    ensures { IfOk result (λ told. map view told.items ≡
-        news announced extras.now.relates extras.now.step_words.now (P.shown paper.now)
-        extras.now.checked.now documents.now (map view first.items)) }
+    ensures { IfOk result (λ told. map view told.items ≡ news P.shown server.now (map view first.items)) }
 {
-    let list = with_diagnostics(alloc, extras, paper, documents, first)?;
-    let told = with_announced(alloc, paper, announced, list)?;
+    let list = with_diagnostics(alloc, server, server.documents.as_slice(), first)?;
+    let told = with_announced(alloc, &server.paper, server.announced, list)?;
     Ok(told)
 }

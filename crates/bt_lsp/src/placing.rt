@@ -6,7 +6,7 @@ ghost use Rattle.bt_places.specs.Shapes.{range};
 ghost use Rattle.bt_lsp.specs.Placing.{moved, call, diagnostic_with, is_line_of, first_line_of, fault_of, fault_in, at_name, at_fault, at_step, value_at, with_placed, first_word, told_in};
 
 use crate::styles::shown_style;
-use bt_diagnostics::{Diagnostic, Keys, diagnostics};
+use bt_diagnostics::{Diagnostic, FileText, Keys, diagnostics};
 use bt_documents::Document;
 use bt_log::{Message, Place, Said};
 use bt_places::{diagnostic, location, range_of, shown};
@@ -23,6 +23,7 @@ use std::alloc::{AllocError, Global};
 /// A style that is open, under the name that the run has for it.
 #[derive(Clone, Copy)]
 pub struct OpenStyle<'a> {
+    pub alloc: Global,
     pub name: &'a [u8],
     pub document: &'a Document,
     pub keys: &'a Keys,
@@ -33,7 +34,7 @@ pub struct OpenStyle<'a> {
 }
 
 /// The same diagnostic at another part of a document.
-fn moved(
+fn diagnostic_at(
     alloc: Global,
     document: &Document,
     start: usize,
@@ -148,103 +149,13 @@ fn at_name(
 {
     let likely = shown_style(document).likely_at(alloc, word)?;
     let words = fault_words(alloc, found.words.as_slice(), likely.as_slice())?;
-    let there = moved(alloc, document, word.start, word.end, found)?;
+    let there = diagnostic_at(alloc, document, word.start, word.end, found)?;
     Ok(Diagnostic {
         from: there.from,
         to: there.to,
         severity: there.severity,
         words,
     })
-}
-
-/// What an editor shows of a style's fault: at its word, if that is known.
-fn at_fault(alloc: Global, style: &OpenStyle<'_>, found: &Diagnostic) -> Result<Value, AllocError>
-    requires { 2 * length style.now.document.now.text < 2 ^ 64 }
-    ensures { IfOk result (λ v. view v ≡ at_fault style.now.document.now style.now.fault found.now) }
-{
-    let Some(word) = style.fault else {
-        return diagnostic(alloc, found);
-    };
-    let there = at_name(alloc, style.document, word, found)?;
-    let value = diagnostic(alloc, &there)?;
-    Ok(value)
-}
-
-/// The same at the word that ran, with the calls that led there.
-fn at_word(
-    alloc: Global,
-    style: &OpenStyle<'_>,
-    word: &StepWord,
-    found: &Diagnostic,
-) -> Result<Value, AllocError>
-    requires { 2 * length style.now.document.now.text < 2 ^ 64 }
-    ensures { IfOk result (λ v. view v ≡
-        at_step style.now.relates style.now.document.now (Some word.now) found.now) }
-{
-    let there = moved(alloc, style.document, word.start, word.end, found)?;
-    if !style.relates {
-        let value = diagnostic(alloc, &there)?;
-        return Ok(value);
-    }
-    let places = calls(alloc, style.document, word.calls.as_slice())?;
-    let value = diagnostic_with(alloc, &there, places)?;
-    Ok(value)
-}
-
-/// What an editor shows of a step's message: at the word that ran, if that is known.
-fn at_step(
-    alloc: Global,
-    style: &OpenStyle<'_>,
-    word: Option<&StepWord>,
-    found: &Diagnostic,
-) -> Result<Value, AllocError>
-    requires { 2 * length style.now.document.now.text < 2 ^ 64 }
-    ensures { IfOk result (λ v. view v ≡
-        at_step style.now.relates style.now.document.now (option_map (λ w. w.now) word.entry) found.now) }
-{
-    match word {
-        None => diagnostic(alloc, found),
-        Some(word) => at_word(alloc, style, word, found),
-    }
-}
-
-/// What an editor shows of a message whose diagnostic this is.
-fn value_at(
-    alloc: Global,
-    style: &OpenStyle<'_>,
-    word: Option<&StepWord>,
-    message: &Message,
-    found: &Diagnostic,
-) -> Result<Value, AllocError>
-    requires { 2 * length style.now.document.now.text < 2 ^ 64 }
-    ensures { IfOk result (λ v. view v ≡ value_at style.now.relates style.now.document.now style.now.fault
-        (option_map (λ w. w.now) word.entry) message.now.place message.now.said found.now) }
-{
-    match (&message.place, &message.said) {
-        (Some(Place::Line { .. }), Said::Words(_)) => at_fault(alloc, style, found),
-        (Some(Place::Step { .. }), _) => at_step(alloc, style, word, found),
-        _ => diagnostic(alloc, found),
-    }
-}
-
-/// Adds the diagnostics of a message.
-fn with_placed(
-    alloc: Global,
-    style: &OpenStyle<'_>,
-    word: Option<&StepWord>,
-    message: &Message,
-    found: &[Diagnostic],
-    list: Vec<Value>,
-) -> Result<Vec<Value>, AllocError>
-    requires { 2 * length style.now.document.now.text < 2 ^ 64 }
-    ensures { IfOk result (λ all. map view all.items ≡ with_placed style.now.relates style.now.document.now style.now.fault
-        (option_map (λ w. w.now) word.entry) message.now (map view list.items) found.now) }
-{
-    let mut all = list;
-    'found: for one in found {
-        all.push(value_at(alloc, style, word, message, one)?)?;
-    }
-    Ok(all)
 }
 
 fn first_word(words: &[Option<StepWord>]) -> Option<&StepWord>
@@ -265,34 +176,119 @@ fn words_behind(words: &[Option<StepWord>]) -> &[Option<StepWord>]
     }
 }
 
-/// The diagnostics of messages in a style: each at its place, but the style's fault at its word, and the message of a step at
-/// the word that ran. `step_words` has the word of each message, as far as it is known.
-pub fn style_diagnostics(
-    alloc: Global,
-    style: &OpenStyle<'_>,
-    step_words: &[Option<StepWord>],
-    messages: &[Message],
-) -> Result<Vec<Value>, AllocError>
-    requires { 2 * length style.now.document.now.text < 2 ^ 64 }
-    ensures { IfOk result (λ all. map view all.items ≡ told_in style.now.relates style.now.document.now style.now.fault
-        style.now.keys.now style.now.name.now step_words.now messages.now) }
-{
-    let OpenStyle {
-        name,
-        document,
-        keys,
-        ..
-    } = *style;
-    let mut all = Vec::new(alloc);
-    let mut words = step_words;
-    let mut left = messages;
-    'messages: while let [message, rest @ ..] = left {
-        let one = left.split_at(1).0;
-        let found = diagnostics(alloc, name, document.counting, &document.text, keys, one)?;
-        let word = first_word(words);
-        all = with_placed(alloc, style, word, message, found.as_slice(), all)?;
-        words = words_behind(words);
-        left = rest;
+impl OpenStyle<'_> {
+    /// What an editor shows of a style's fault: at its word, if that is known.
+    fn at_fault(&self, found: &Diagnostic) -> Result<Value, AllocError>
+        requires { 2 * length self.now.document.now.text < 2 ^ 64 }
+        ensures { IfOk result (λ v. view v ≡ at_fault self.now.document.now self.now.fault found.now) }
+    {
+        let Some(word) = self.fault else {
+            return diagnostic(self.alloc, found);
+        };
+        let there = at_name(self.alloc, self.document, word, found)?;
+        let value = diagnostic(self.alloc, &there)?;
+        Ok(value)
     }
-    Ok(all)
+
+    /// The same at the word that ran, with the calls that led there.
+    fn at_word(&self, word: &StepWord, found: &Diagnostic) -> Result<Value, AllocError>
+        requires { 2 * length self.now.document.now.text < 2 ^ 64 }
+        ensures { IfOk result (λ v. view v ≡
+            at_step self.now.relates self.now.document.now (Some word.now) found.now) }
+    {
+        let there = diagnostic_at(self.alloc, self.document, word.start, word.end, found)?;
+        if !self.relates {
+            let value = diagnostic(self.alloc, &there)?;
+            return Ok(value);
+        }
+        let places = calls(self.alloc, self.document, word.calls.as_slice())?;
+        let value = diagnostic_with(self.alloc, &there, places)?;
+        Ok(value)
+    }
+
+    /// What an editor shows of a step's message: at the word that ran, if that is known.
+    fn at_step(&self, word: Option<&StepWord>, found: &Diagnostic) -> Result<Value, AllocError>
+        requires { 2 * length self.now.document.now.text < 2 ^ 64 }
+        ensures { IfOk result (λ v. view v ≡
+            at_step self.now.relates self.now.document.now (option_map (λ w. w.now) word.entry) found.now) }
+    {
+        match word {
+            None => diagnostic(self.alloc, found),
+            Some(word) => self.at_word(word, found),
+        }
+    }
+
+    /// What an editor shows of a message whose diagnostic this is.
+    fn value_at(
+        &self,
+        word: Option<&StepWord>,
+        message: &Message,
+        found: &Diagnostic,
+    ) -> Result<Value, AllocError>
+        requires { 2 * length self.now.document.now.text < 2 ^ 64 }
+        ensures { IfOk result (λ v. view v ≡ value_at self.now.relates self.now.document.now self.now.fault
+            (option_map (λ w. w.now) word.entry) message.now.place message.now.said found.now) }
+    {
+        match (&message.place, &message.said) {
+            (Some(Place::Line { .. }), Said::Words(_)) => self.at_fault(found),
+            (Some(Place::Step { .. }), _) => self.at_step(word, found),
+            _ => diagnostic(self.alloc, found),
+        }
+    }
+
+    /// Adds the diagnostics of a message.
+    fn with_placed(
+        &self,
+        word: Option<&StepWord>,
+        message: &Message,
+        found: &[Diagnostic],
+        list: Vec<Value>,
+    ) -> Result<Vec<Value>, AllocError>
+        requires { 2 * length self.now.document.now.text < 2 ^ 64 }
+        ensures { IfOk result (λ all. map view all.items ≡ with_placed self.now.relates self.now.document.now self.now.fault
+            (option_map (λ w. w.now) word.entry) message.now (map view list.items) found.now) }
+    {
+        let mut all = list;
+        'found: for one in found {
+            all.push(self.value_at(word, message, one)?)?;
+        }
+        Ok(all)
+    }
+
+    /// The diagnostics of messages in a style: each at its place, but the style's fault at its word, and the message of a step
+    /// at the word that ran. `step_words` has the word of each message, as far as it is known.
+    pub fn all_diagnostics(
+        &self,
+        step_words: &[Option<StepWord>],
+        messages: &[Message],
+    ) -> Result<Vec<Value>, AllocError>
+        requires { 2 * length self.now.document.now.text < 2 ^ 64 }
+        ensures { IfOk result (λ all. map view all.items ≡ told_in self.now.relates self.now.document.now self.now.fault
+            self.now.keys.now self.now.name.now step_words.now messages.now) }
+    {
+        let OpenStyle {
+            alloc,
+            name,
+            document,
+            keys,
+            ..
+        } = *self;
+        let file = FileText {
+            name,
+            counting: document.counting,
+            text: &document.text,
+        };
+        let mut all = Vec::new(alloc);
+        let mut words = step_words;
+        let mut left = messages;
+        'messages: while let [message, rest @ ..] = left {
+            let one = left.split_at(1).0;
+            let found = diagnostics(alloc, &file, keys, one)?;
+            let word = first_word(words);
+            all = self.with_placed(word, message, found.as_slice(), all)?;
+            words = words_behind(words);
+            left = rest;
+        }
+        Ok(all)
+    }
 }

@@ -3,11 +3,12 @@
 ghost use Rattle.std.specs.Prelude.{◌≡◌, map, IfOk, OnErr};
 ghost use Rattle.serde_json.specs.View.{view};
 ghost use Rattle.bt_talk.specs.Replies.{outcome_of};
-ghost use Rattle.bt_lsp.specs.Desk.{duty_of, IsBegun, queried, IsOutcomeBy, IsFoundOutcome, is_behind, greets, is_greeting, IsGreeted, owes, SettledIf};
+ghost use Rattle.bt_lsp.specs.Desk.{duty_of, IsBegun, IsOutcomeBy, IsFoundOutcome, is_behind, greets, is_greeting, IsGreeted, owes, SettledIf};
 ghost use Rattle.bt_places.specs.Parameters.{offers_bytes, takes_plain};
+ghost use Rattle.bt_places.specs.Words.{counting_of};
 
 use crate::announcing::{Announced, announced_by};
-use crate::answering::answered;
+use crate::answering::Question;
 use crate::carrying::take_up;
 use crate::found::{Found, found_for};
 use crate::methods::{Notice, Request, notice_of, request_of};
@@ -142,6 +143,19 @@ impl<P: Paper> Server<P> {
         }
     }
 
+    /// What the editor holds open.
+    pub fn editor(&self) -> Editor<'_>
+        ensures documents { result.documents.now ≡ self.now.documents }
+        ensures checked { result.checked.now ≡ self.now.checked }
+        ensures counting { result.counting ≡ counting_of self.now.counts_bytes }
+    {
+        Editor {
+            documents: self.documents.as_slice(),
+            checked: self.checked.as_slice(),
+            counting: counting_of(self.counts_bytes),
+        }
+    }
+
     /// Whether `shutdown` came, as it should before `exit`.
     pub fn is_shut_down(&self) -> bool {
         self.phase == Phase::ShutDown
@@ -170,34 +184,6 @@ fn begin<P: Paper>(
     Ok(Ok(answer))
 }
 
-/// The outcome of a request that changes nothing, by what is found out for it.
-fn queried<P: Paper>(
-    alloc: Global,
-    found: &Found,
-    server: &Server<P>,
-    request: Request,
-    message: &Value,
-) -> Result<Result<Value, RpcError>, AllocError>
-    ensures { IfOk result (λ outcome. outcome_of outcome ≡ queried P.shown found.now server.now (view message.now) request) }
-{
-    let editor = Editor {
-        documents: server.documents.as_slice(),
-        checked: server.checked.as_slice(),
-        counting: counting_of(server.counts_bytes),
-    };
-    let plain = server.hovers_plain;
-    let outcome = answered(
-        alloc,
-        found,
-        plain,
-        &server.paper,
-        &editor,
-        request,
-        message,
-    )?;
-    Ok(outcome)
-}
-
 fn outcome_by<P: Paper>(
     alloc: Global,
     found: &Found,
@@ -217,7 +203,15 @@ fn outcome_by<P: Paper>(
             server.phase = Phase::ShutDown;
             Ok(Ok(Value::Null))
         }
-        (Phase::Ready, query) => queried(alloc, found, server, query, message),
+        (Phase::Ready, query) => {
+            let question = Question {
+                alloc,
+                server: &*server,
+                found,
+                message,
+            };
+            question.answer_to(query)
+        }
     }
 }
 
@@ -232,9 +226,7 @@ fn outcome_for<P: Paper>(
         (outcome_of outcome) server.new) }
     ensures err { OnErr result (server.new ≡ server.old) }
 {
-    let counting = counting_of(server.counts_bytes);
-    let documents = server.documents.as_slice();
-    let found = found_for(alloc, counting, &server.paper, documents, request, message)?;
+    let found = found_for(alloc, server, request, message)?;
     outcome_by(alloc, &found, server, request, message)
 }
 

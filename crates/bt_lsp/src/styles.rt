@@ -4,13 +4,14 @@ ghost use Rattle.std.specs.Prelude.{◌≡◌, ◌<◌, ◌*◌, ◌^◌, ◌++�
 ghost use Rattle.serde_json.specs.View.{view};
 ghost use Rattle.bt_talk.specs.Replies.{outcome_of};
 ghost use Rattle.bt_style_answers.specs.Renaming.{refused_or};
-ghost use Rattle.bt_lsp.specs.Styles.{findings_of, error_of, outcome_for, style_renamed, said_at, said_of, style_answer_at, style_answer_of, with_style_hints};
+ghost use Rattle.bt_lsp.specs.Styles.{findings_of, error_of, outcome_for, rename_outcome, shown_answer_at, shown_answer_of, style_answer_at, style_answer_of, with_style_hints};
 
+use crate::answering::Question;
 use crate::methods::{CursorQuery, DocumentQuery};
 use bt_documents::Document;
-use bt_places::{Editor, SHOWN_BYTES, is_style, text_at, wants_declarations};
+use bt_places::{Cursor, Paper, SHOWN_BYTES, is_style, text_at, wants_declarations};
 use bt_positions::Position;
-use bt_remarks::{Checked, Remarks, check_again, found_for, with_findings};
+use bt_remarks::{Checked, Remarks, ShownText, check_again, found_for, with_findings};
 use bt_rpc::RpcError;
 use bt_style_answers::ShownStyle;
 use bt_style_text::{RenameRefusal, Word};
@@ -57,13 +58,13 @@ fn outcome_for(answer: Result<Value, RenameRefusal>) -> Result<Value, RpcError>
 }
 
 /// The edits of a rename.
-fn style_renamed(
+fn rename_outcome(
     alloc: Global,
     style: &ShownStyle<'_>,
     at: Position,
     new: Option<&str>,
 ) -> Result<Result<Value, RpcError>, AllocError>
-    ensures { IfOk result (λ o. outcome_of o ≡ style_renamed style.now.counting style.now.uri.now
+    ensures { IfOk result (λ o. outcome_of o ≡ rename_outcome style.now.counting style.now.uri.now
         style.now.text.now at (option_map (λ s. s.now) new.entry)) }
 {
     match new {
@@ -72,94 +73,86 @@ fn style_renamed(
     }
 }
 
-/// What is said of a position. The notes are what was found out about the stack there.
-fn said_at(
-    alloc: Global,
-    notes: &[u8],
-    plain: bool,
-    query: CursorQuery,
-    style: &ShownStyle<'_>,
-    at: Position,
-    message: &Value,
-) -> Result<Result<Value, RpcError>, AllocError>
-    ensures { IfOk result (λ o. outcome_of o ≡ said_at notes.now plain query style.now.counting style.now.uri.now
-        style.now.text.now at (view message.now)) }
-{
-    match query {
-        CursorQuery::Hover => Ok(Ok(style.hover_at(alloc, at, notes, plain)?)),
-        CursorQuery::Definition => Ok(Ok(style.definition_at(alloc, at)?)),
-        CursorQuery::References => {
-            let with_declarations = wants_declarations(message);
-            Ok(Ok(style.references_at(alloc, at, with_declarations)?))
+impl<P: Paper> Question<'_, P> {
+    /// The answer at a position of a style of which the editor shows something.
+    fn shown_answer_at(
+        &self,
+        query: CursorQuery,
+        style: &ShownStyle<'_>,
+        at: Position,
+    ) -> Result<Result<Value, RpcError>, AllocError>
+        ensures { IfOk result (λ o. outcome_of o ≡ shown_answer_at self.now.found.now self.now.server.now
+            query style.now.counting style.now.uri.now style.now.text.now at (view self.now.message.now)) }
+    {
+        let alloc = self.alloc;
+        match query {
+            CursorQuery::Hover => {
+                let notes = self.found.notes.as_slice();
+                Ok(Ok(style.hover_at(alloc, at, notes, self.server.hovers_plain)?))
+            }
+            CursorQuery::Definition => Ok(Ok(style.definition_at(alloc, at)?)),
+            CursorQuery::References => {
+                let with_declarations = wants_declarations(self.message);
+                Ok(Ok(style.references_at(alloc, at, with_declarations)?))
+            }
+            CursorQuery::Rename => {
+                rename_outcome(alloc, style, at, text_at(self.message, "/params/newName"))
+            }
+            CursorQuery::NameRange => Ok(outcome_for(style.renamed_range_at(alloc, at)?)),
+            CursorQuery::Completion => Ok(Ok(style.completion_at(alloc, at)?)),
         }
-        CursorQuery::Rename => {
-            style_renamed(alloc, style, at, text_at(message, "/params/newName"))
+    }
+
+    /// The answer at a position of a style.
+    pub fn style_answer_at(
+        &self,
+        query: CursorQuery,
+        cursor: &Cursor<'_>,
+    ) -> Result<Result<Value, RpcError>, AllocError>
+        ensures { IfOk result (λ o. outcome_of o ≡ style_answer_at self.now.found.now self.now.server.now
+            query cursor.now.document.now cursor.now.at (view self.now.message.now)) }
+    {
+        let Cursor { document, at } = *cursor;
+        if document.text.as_slice().len() > SHOWN_BYTES {
+            return Ok(Ok(Value::Null));
         }
-        CursorQuery::NameRange => Ok(outcome_for(style.renamed_range_at(alloc, at)?)),
-        CursorQuery::Completion => Ok(Ok(style.completion_at(alloc, at)?)),
+        self.shown_answer_at(query, &shown_style(document), at)
     }
-}
 
-/// The answer at a position of a style.
-pub fn style_answer_at(
-    alloc: Global,
-    notes: &[u8],
-    plain: bool,
-    query: CursorQuery,
-    document: &Document,
-    at: Position,
-    message: &Value,
-) -> Result<Result<Value, RpcError>, AllocError>
-    ensures { IfOk result (λ o. outcome_of o ≡ style_answer_at notes.now plain query document.now at (view message.now)) }
-{
-    if document.text.as_slice().len() > SHOWN_BYTES {
-        return Ok(Ok(Value::Null));
+    fn shown_answer_of(
+        &self,
+        query: DocumentQuery,
+        document: &Document,
+    ) -> Result<Value, AllocError>
+        requires { 2 * length document.now.text < 2 ^ 64 }
+        ensures { IfOk result (λ v. view v ≡ shown_answer_of self.now.server.now
+            query document.now (view self.now.message.now)) }
+    {
+        let alloc = self.alloc;
+        match query {
+            DocumentQuery::Outline => shown_style(document).symbols(alloc),
+            DocumentQuery::Folds => shown_style(document).folds(alloc),
+            DocumentQuery::Actions => {
+                actions_in_style(alloc, &self.server.editor(), document, self.message)
+            }
+            DocumentQuery::Format | DocumentQuery::Links => Ok(Value::Null),
+        }
     }
-    said_at(
-        alloc,
-        notes,
-        plain,
-        query,
-        &shown_style(document),
-        at,
-        message,
-    )
-}
 
-fn said_of(
-    alloc: Global,
-    editor: &Editor<'_>,
-    query: DocumentQuery,
-    document: &Document,
-    message: &Value,
-) -> Result<Value, AllocError>
-    requires { 2 * length document.now.text < 2 ^ 64 }
-    ensures { IfOk result (λ v. view v ≡
-        said_of editor.now.checked.now editor.now.documents.now query document.now (view message.now)) }
-{
-    match query {
-        DocumentQuery::Outline => shown_style(document).symbols(alloc),
-        DocumentQuery::Folds => shown_style(document).folds(alloc),
-        DocumentQuery::Actions => actions_in_style(alloc, editor, document, message),
-        DocumentQuery::Format | DocumentQuery::Links => Ok(Value::Null),
+    /// The answer for a style.
+    pub fn style_answer_of(
+        &self,
+        query: DocumentQuery,
+        document: &Document,
+    ) -> Result<Value, AllocError>
+        ensures { IfOk result (λ v. view v ≡ style_answer_of self.now.server.now
+            query document.now (view self.now.message.now)) }
+    {
+        if document.text.as_slice().len() > SHOWN_BYTES {
+            return Ok(Value::Null);
+        }
+        self.shown_answer_of(query, document)
     }
-}
-
-/// The answer for a style.
-pub fn style_answer_of(
-    alloc: Global,
-    editor: &Editor<'_>,
-    query: DocumentQuery,
-    document: &Document,
-    message: &Value,
-) -> Result<Value, AllocError>
-    ensures { IfOk result (λ v. view v ≡
-        style_answer_of editor.now.checked.now editor.now.documents.now query document.now (view message.now)) }
-{
-    if document.text.as_slice().len() > SHOWN_BYTES {
-        return Ok(Value::Null);
-    }
-    said_of(alloc, editor, query, document, message)
 }
 
 /// Checks a document, if it is a style whose text is new.
@@ -200,10 +193,13 @@ fn with_found(
     requires { 2 * length document.now.text < 2 ^ 64 }
     ensures { IfOk result (λ all. map view all.items ≡ map view list.items ++ findings_of checked.now document.now) }
 {
-    let name = document.name.as_slice();
-    let text = &document.text;
-    let found = found_for(checked, name, text.as_slice());
-    with_findings(alloc, document.counting, name, text, found, list)
+    let style = ShownText {
+        uri: document.name.as_slice(),
+        counting: document.counting,
+        text: &document.text,
+    };
+    let found = found_for(checked, style.uri, style.text.as_slice());
+    with_findings(alloc, &style, found, list)
 }
 
 /// Adds the hints and the findings for a document, if it is a style. It may have a fault at this word.

@@ -9,10 +9,11 @@ ghost use Rattle.bt_lsp.specs.Taken.{IsOpened, IsChanged, IsClosed, Taken};
 
 use crate::changes::changes_of;
 use crate::methods::Notice;
+use crate::server::Server;
 use bt_documents::{Document, change, close, open};
 use bt_places::{Paper, bytes_of, text_at, version_at};
-use bt_positions::Counting;
-use bt_text::Sequence;
+use bt_positions::{Counting, IndexedText};
+use bt_text::{Bytes, Sequence};
 use serde_json::Value;
 use std::alloc::{AllocError, Global};
 
@@ -57,15 +58,10 @@ fn take_opened<P: Paper>(
     let version = version_at(message, "/params/textDocument/version");
     let is_latin = paper.is_latin(alloc, uri, text)?;
     let counting = counting_for(counts_bytes, is_latin);
+    let name = Bytes::copied(alloc, uri.as_bytes())?;
     let bytes = bytes_of(alloc, counting, text)?;
-    open(
-        alloc,
-        documents,
-        uri.as_bytes(),
-        counting,
-        version,
-        bytes.as_slice(),
-    )?;
+    let indexed = IndexedText::new(alloc, bytes.into_vec())?;
+    open(documents, name, counting, version, indexed)?;
     Ok(())
 }
 
@@ -130,18 +126,28 @@ fn take_closed(
 /// Does to the documents what a notification says. The paper gets their new texts later.
 pub fn take<P: Paper>(
     alloc: Global,
-    paper: &P,
-    documents: &mut Sequence<Document>,
-    counts_bytes: bool,
+    server: &mut Server<P>,
     notice: Notice,
     message: &Value,
 ) -> Result<(), Untaken>
-    ensures taken { IfOk result (λ _. Taken counts_bytes notice (view message.now) documents.old documents.new) }
-    ensures follows { (text : List ℕ → Option (List ℕ)) → Follows text documents.old → Follows text documents.new }
-    ensures err { OnErr result (documents.new ≡ documents.old) }
+    ensures taken { IfOk result (λ _.
+        Taken server.old.counts_bytes notice (view message.now) server.old.documents server.new.documents) }
+    ensures follows { (text : List ℕ → Option (List ℕ)) →
+        Follows text server.old.documents → Follows text server.new.documents }
+    ensures err { OnErr result (server.new ≡ server.old) }
+    ensures rest { server.new ≡ record server.old { documents = server.new.documents } }
 {
+    let documents = &mut server.documents;
     match notice {
-        Notice::Opened => take_opened(alloc, paper, documents, counts_bytes, message),
+        Notice::Opened => {
+            take_opened(
+                alloc,
+                &server.paper,
+                documents,
+                server.counts_bytes,
+                message,
+            )
+        }
         Notice::Changed => take_changed(alloc, documents, message),
         Notice::Closed => take_closed(alloc, documents, message),
         Notice::Saved | Notice::Exit | Notice::Other => Ok(()),

@@ -67,11 +67,11 @@ abbrev pub whole_options : Data
 whole_options = object (member (codes "resolveProvider") (boolean false) no_members)
 
 -- what the server can do, as far as it has options or values of its own
-abbrev pub choices : List ℕ → Data → Data → Data → Data → Data → Data
-choices encoding completion rename sync links lenses =
-    object (member (codes "codeLensProvider") lenses (member (codes "completionProvider") completion
-    (member (codes "documentLinkProvider") links (member (codes "positionEncoding") (string encoding)
-    (member (codes "renameProvider") rename (member (codes "textDocumentSync") sync no_members))))))
+abbrev pub choices : List ℕ → Data → Data → Data
+choices encoding completion sync =
+    object (member (codes "codeLensProvider") whole_options (member (codes "completionProvider") completion
+    (member (codes "documentLinkProvider") whole_options (member (codes "positionEncoding") (string encoding)
+    (member (codes "renameProvider") rename_options (member (codes "textDocumentSync") sync no_members))))))
 
 -- that each of some names is true, beside other members
 abbrev pub with_names : List (List ℕ) → Members → Members
@@ -101,5 +101,5 @@ encoding_of counts_bytes = if counts_bytes then codes "utf-8" else codes "utf-16
 abbrev pub capabilities : Bool → Data
 capabilities counts_bytes =
     object (member (codes "capabilities")
-    (abilities (choices (encoding_of counts_bytes) completion_options rename_options sync_options whole_options whole_options))
+    (abilities (choices (encoding_of counts_bytes) completion_options sync_options))
     (member (codes "serverInfo") (object (member (codes "name") (string (codes "bibtex-lsp")) no_members)) no_members))

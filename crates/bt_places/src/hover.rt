@@ -6,10 +6,9 @@ ghost use Rattle.bt_places.specs.Hover.{key_len, keys_at_end, word_at, word_of, 
 
 use crate::entries::{is_database, key_around};
 use crate::paper::Paper;
+use crate::parameters::Cursor;
 use crate::shapes::hover;
-use bt_documents::Document;
 use bt_mentions::is_key_byte;
-use bt_positions::Position;
 use bt_text::{Bytes, white_run};
 use serde_json::Value;
 use std::alloc::{AllocError, Global};
@@ -56,22 +55,24 @@ fn word_at(text: &[u8], place: usize) -> &[u8]
 }
 
 /// The word of key bytes at a position of a document.
-pub fn word_of(document: &Document, at: Position) -> &[u8]
-    ensures { result.now ≡ word_of document.now at }
+pub fn word_of<'a>(cursor: &Cursor<'a>) -> &'a [u8]
+    ensures { result.now ≡ word_of cursor.now.document.now cursor.now.at }
 {
+    let Cursor { document, at } = *cursor;
     let place = document.text.offset_of(document.counting, at);
     word_at(document.text.as_slice(), place)
 }
 
 /// The key at a position of a document: in a database, that of the entry around it; elsewhere, the word around it.
-pub fn key_at(alloc: Global, document: &Document, at: Position) -> Result<Bytes, AllocError>
-    ensures { IfOk result (λ key. key ≡ key_at document.now at) }
+pub fn key_at(alloc: Global, cursor: &Cursor<'_>) -> Result<Bytes, AllocError>
+    ensures { IfOk result (λ key. key ≡ key_at cursor.now.document.now cursor.now.at) }
 {
+    let Cursor { document, at } = *cursor;
     if is_database(document.name.as_slice()) {
         let place = document.text.offset_of(document.counting, at);
         key_around(alloc, document.text.as_slice(), place)
     } else {
-        Bytes::copied(alloc, word_of(document, at))
+        Bytes::copied(alloc, word_of(cursor))
     }
 }
 
@@ -106,12 +107,11 @@ pub fn hover_at<P: Paper>(
     alloc: Global,
     paper: &P,
     plain: bool,
-    document: &Document,
-    at: Position,
+    cursor: &Cursor<'_>,
 ) -> Result<Value, AllocError>
-    ensures { IfOk result (λ v. view v ≡ hover_at (P.shown paper.now).entry_text plain document.now at) }
+    ensures { IfOk result (λ v. view v ≡ hover_at (P.shown paper.now).entry_text plain cursor.now.document.now cursor.now.at) }
 {
-    let key = key_at(alloc, document, at)?;
+    let key = key_at(alloc, cursor)?;
     let shown = hover_of(alloc, paper, plain, key.as_slice())?;
     Ok(shown)
 }

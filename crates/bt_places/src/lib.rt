@@ -26,10 +26,10 @@ pub use hover::{hover_at, key_at, keys_at_end, word_of};
 pub use mentioning::{citations_of, is_key, mention_at, mentions_of};
 pub use paper::Paper;
 pub use parameters::{
-    cursor_of, document_of, has_word_at, place_of, position_at, text_at, version_at,
+    Cursor, cursor_of, document_of, has_word_at, place_of, position_at, text_at, version_at,
     wants_declarations,
 };
-pub use picking::{Pick, with_picked};
+pub use picking::{NamedText, Pick, with_picked};
 pub use shapes::{
     SHOWN_BYTES, capabilities, diagnostic, diagnostic_values, location, published, range_of,
     shown_status, shown_text,

@@ -5,9 +5,8 @@ ghost use Rattle.bt_places.specs.Mentioning.{citations_of, mentions_of, is_key, 
 
 use crate::commented::closed;
 use crate::entries::{is_database, is_style, is_tex};
-use bt_documents::Document;
+use crate::parameters::Cursor;
 use bt_mentions::{Mention, Role, citations, mentions};
-use bt_positions::Position;
 use bt_text::Sequence;
 use std::alloc::{AllocError, Global};
 
@@ -69,13 +68,10 @@ fn mention_around(found: &[Mention], place: usize) -> Option<Mention>
 }
 
 /// The mention at a position of a document.
-pub fn mention_at(
-    alloc: Global,
-    document: &Document,
-    at: Position,
-) -> Result<Option<Mention>, AllocError>
-    ensures { IfOk result (λ found. found ≡ mention_at document.now at) }
+pub fn mention_at(alloc: Global, cursor: &Cursor<'_>) -> Result<Option<Mention>, AllocError>
+    ensures { IfOk result (λ found. found ≡ mention_at cursor.now.document.now cursor.now.at) }
 {
+    let Cursor { document, at } = *cursor;
     let place = document.text.offset_of(document.counting, at);
     let found = mentions_of(alloc, document.name.as_slice(), document.text.as_slice())?;
     Ok(mention_around(found.as_slice(), place))

@@ -119,12 +119,19 @@ pub fn document_of<'a>(documents: &'a [Document], message: &Value) -> Option<&'a
     }
 }
 
-/// The open document that a message names, and the cursor's position in it.
-pub fn place_of<'a>(documents: &'a [Document], message: &Value) -> Option<(&'a Document, Position)>
-    ensures { option_map (λ p. (p.0.now, p.1)) result ≡ place_of documents.now (view message.now) }
+/// The editor's cursor: an open document, and a position in it.
+#[derive(Clone, Copy)]
+pub struct Cursor<'a> {
+    pub document: &'a Document,
+    pub at: Position,
+}
+
+/// The cursor of a message, if it names an open document and a position.
+pub fn place_of<'a>(documents: &'a [Document], message: &Value) -> Option<Cursor<'a>>
+    ensures { option_map (λ c. (c.document.now, c.at)) result ≡ place_of documents.now (view message.now) }
 {
     match (document_of(documents, message), cursor_of(message)) {
-        (Some(document), Some(at)) => Some((document, at)),
+        (Some(document), Some(at)) => Some(Cursor { document, at }),
         _ => None,
     }
 }

@@ -12,6 +12,13 @@ use bt_positions::IndexedText;
 use serde_json::Value;
 use std::alloc::{AllocError, Global};
 
+/// The text of the file at a URI.
+#[derive(Clone, Copy)]
+pub struct NamedText<'a> {
+    pub uri: &'a [u8],
+    pub text: &'a IndexedText,
+}
+
 /// What adds values to a list for each mention of a file.
 pub trait Pick {
     ghost use Rattle.std.specs.Prelude.{◌≡◌, ◌<◌, ◌*◌, ◌^◌, ℕ, List, length, map, IfOk};
@@ -25,30 +32,29 @@ pub trait Pick {
     fn pick(
         &self,
         alloc: Global,
-        uri: &[u8],
-        text: &IndexedText,
+        file: &NamedText<'_>,
         list: Vec<Value>,
         one: Mention,
     ) -> Result<Vec<Value>, AllocError>
-        requires { 2 * length text.now < 2 ^ 64 }
-        ensures { IfOk result (λ all. map view all.items ≡ picked self.now uri.now text.now (map view list.items) one) };
+        requires { 2 * length file.now.text.now < 2 ^ 64 }
+        ensures { IfOk result (λ all. map view all.items ≡
+            picked self.now file.now.uri.now file.now.text.now (map view list.items) one) };
 }
 
 fn with_all<K: Pick>(
     alloc: Global,
     picker: &K,
-    uri: &[u8],
-    text: &IndexedText,
+    file: &NamedText<'_>,
     list: Vec<Value>,
     found: &[Mention],
 ) -> Result<Vec<Value>, AllocError>
-    requires { 2 * length text.now < 2 ^ 64 }
+    requires { 2 * length file.now.text.now < 2 ^ 64 }
     ensures { IfOk result (λ all. map view all.items ≡
-        fold (K.picked picker.now uri.now text.now) (map view list.items) found.now) }
+        fold (K.picked picker.now file.now.uri.now file.now.text.now) (map view list.items) found.now) }
 {
     let mut all = list;
     'found: for one in found {
-        all = picker.pick(alloc, uri, text, all, *one)?;
+        all = picker.pick(alloc, file, all, *one)?;
     }
     Ok(all)
 }
@@ -69,5 +75,9 @@ pub fn with_picked<K: Pick>(
     }
     let found = mentions_of(alloc, uri, text)?;
     let indexed = IndexedText::copied(alloc, text)?;
-    with_all(alloc, picker, uri, &indexed, list, found.as_slice())
+    let file = NamedText {
+        uri,
+        text: &indexed,
+    };
+    with_all(alloc, picker, &file, list, found.as_slice())
 }

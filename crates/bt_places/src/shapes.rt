@@ -4,7 +4,7 @@ ghost use Rattle.std.specs.Prelude.{◌≡◌, map, IfOk, OnOk};
 ghost use Rattle.std.specs.String.{string_bytes};
 ghost use Rattle.serde_json.specs.Data.{object};
 ghost use Rattle.serde_json.specs.View.{view, members_view};
-ghost use Rattle.bt_places.specs.Shapes.{diagnostic, published_params, published, contents, hover, shown_text, shown_status, completion_options, rename_options, sync_options, whole_options, choices, with_names, ability_names, abilities, encoding_of, capabilities};
+ghost use Rattle.bt_places.specs.Shapes.{diagnostic, published_params, published, contents, hover, shown_text, shown_status, completion_options, sync_options, choices, with_names, ability_names, abilities, encoding_of, capabilities};
 
 use crate::words::{is_utf8, shown};
 use bt_diagnostics::Diagnostic;
@@ -95,45 +95,29 @@ fn completion_options(alloc: Global) -> Result<Value, AllocError>
     json!(in alloc; {"triggerCharacters": ["{", ",", "@"]})
 }
 
-fn rename_options(alloc: Global) -> Result<Value, AllocError>
-    ensures { IfOk result (λ v. view v ≡ rename_options) }
-{
-    json!(in alloc; {"prepareProvider": true})
-}
-
 fn sync_options(alloc: Global) -> Result<Value, AllocError>
     ensures { IfOk result (λ v. view v ≡ sync_options) }
 {
     json!(in alloc; {"openClose": true, "change": 2, "save": true})
 }
 
-/// How links and lenses are sent: whole, so that the editor asks for no more of them.
-fn whole_options(alloc: Global) -> Result<Value, AllocError>
-    ensures { IfOk result (λ v. view v ≡ whole_options) }
-{
-    json!(in alloc; {"resolveProvider": false})
-}
-
-/// The abilities that have options or values of their own.
+/// The abilities that have options or values of their own. Links and lenses are sent whole, so that the editor asks for no
+/// more of them.
 fn choices(
     alloc: Global,
     encoding: &str,
     completion: Value,
-    rename: Value,
     sync: Value,
-    links: Value,
-    lenses: Value,
 ) -> Result<Value, AllocError>
-    ensures { IfOk result (λ v. view v ≡ choices encoding.now (view completion) (view rename) (view sync)
-        (view links) (view lenses)) }
+    ensures { IfOk result (λ v. view v ≡ choices encoding.now (view completion) (view sync)) }
 {
     json!(in alloc; {
         "textDocumentSync": sync,
-        "renameProvider": rename,
+        "renameProvider": {"prepareProvider": true},
         "positionEncoding": encoding,
-        "documentLinkProvider": links,
+        "documentLinkProvider": {"resolveProvider": false},
         "completionProvider": completion,
-        "codeLensProvider": lenses
+        "codeLensProvider": {"resolveProvider": false}
     })
 }
 
@@ -195,12 +179,9 @@ pub fn capabilities(alloc: Global, counts_bytes: bool) -> Result<Value, AllocErr
     ensures { IfOk result (λ v. view v ≡ capabilities counts_bytes) }
 {
     let completion = completion_options(alloc)?;
-    let rename = rename_options(alloc)?;
     let sync = sync_options(alloc)?;
-    let links = whole_options(alloc)?;
-    let lenses = whole_options(alloc)?;
     let encoding = encoding_of(counts_bytes);
-    let choices = choices(alloc, encoding, completion, rename, sync, links, lenses)?;
+    let choices = choices(alloc, encoding, completion, sync)?;
     let able = abilities(alloc, choices)?;
     json!(in alloc; {"capabilities": able, "serverInfo": {"name": "bibtex-lsp"}})
 }

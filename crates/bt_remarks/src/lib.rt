@@ -16,5 +16,5 @@ pub use checked::{Checked, check_again, found_for};
 pub use finding::{CallPlace, Finding, Weight};
 pub use lens::{FileLine, Lens, Origin};
 pub use step_word::{CallWord, Remarks, StepWord};
-pub use values::with_findings;
+pub use values::{ShownText, with_findings};
 pub use wording::{entry_words, function_words};

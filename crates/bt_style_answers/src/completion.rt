@@ -2,6 +2,8 @@
 
 ghost use Rattle.std.specs.Prelude.{◌≡◌, ◌≤◌, ◌++◌, length, map, IfOk};
 ghost use Rattle.serde_json.specs.View.{view};
+ghost use Rattle.bt_style_text.specs.Completing.{offer_at};
+ghost use Rattle.bt_style_text.specs.Words.{words_of};
 ghost use Rattle.bt_style_answers.specs.Completion.{written_at, edit_of, item, builtin_item, command_item, item_kind, mark_item, builtin_items, command_items, name_items, offered_items, completion_in, completion_at};
 
 use crate::shown_style::ShownStyle;
@@ -148,11 +150,12 @@ impl Written {
         text: &[u8],
         marks: &[Mark],
         place: usize,
-        offer: Offer,
     ) -> Result<Value, AllocError>
-        ensures { IfOk result (λ v. view v ≡ offered_items self.now text.now marks.now place offer) }
+        ensures { IfOk result (λ v. view v ≡
+            offered_items self.now text.now marks.now place (offer_at text.now place (words_of text.now))) }
     {
-        match offer {
+        let words = words_of(alloc, text)?;
+        match offer_at(text, words.as_slice(), place) {
             Offer::Nothing => Ok(Value::Null),
             Offer::Commands => {
                 let list = self.commands(alloc)?;
@@ -189,10 +192,8 @@ impl ShownStyle<'_> {
         ensures { IfOk result (λ v. view v ≡ completion_in self.now.counting self.now.text.now marks.now place) }
     {
         let text = self.text.as_slice();
-        let words = words_of(alloc, text)?;
-        let offer = offer_at(text, words.as_slice(), place);
         let written = self.written_at(marks, place);
-        let value = written.offered(alloc, text, marks, place, offer)?;
+        let value = written.offered(alloc, text, marks, place)?;
         Ok(value)
     }
 

@@ -8,7 +8,7 @@ ghost use Rattle.bt_writing.specs.Actions.{repeated, removal_at, with_removal, b
 use crate::finding::place_in;
 use crate::item_ends::{begins_field, has_line_end, last_word};
 use crate::quick_fix::{action, edit_at};
-use crate::respelling::with_respellings_around;
+use crate::respelling::Database;
 use crate::written::begins_item;
 use bt_bib::{Closing, Content, Item, ItemFault, Piece, PlacedPiece, read_bib};
 use bt_documents::Document;
@@ -41,7 +41,7 @@ pub struct Fix {
 }
 
 /// The entry around a place, if an earlier one has its key.
-fn repeated(pieces: &[PlacedPiece], place: usize) -> Option<&PlacedPiece>
+fn repeated_entry(pieces: &[PlacedPiece], place: usize) -> Option<&PlacedPiece>
     ensures { option_map (λ p. p.now) result ≡ repeated place pieces.now }
 {
     let piece = item_around(pieces, place)?;
@@ -143,7 +143,6 @@ fn with_quote(close: Closing) -> &'static [u8]
     }
 }
 
-/// How it is spelled.
 fn spelling(missing: Missing) -> &'static [u8]
     ensures { result.now ≡ spelling missing }
 {
@@ -156,116 +155,121 @@ fn spelling(missing: Missing) -> &'static [u8]
     }
 }
 
-/// Where a part of a text ends without the white space at its end.
-fn solid_end(text: &[u8], start: usize, to: usize) -> usize
-    requires { start ≤ length text.now }
-    ensures { result ≡ solid_end text.now start to }
-{
-    start + trim_end(part(text, start, to)).len()
-}
-
-/// What closes the item between two places of a text, if it was opened.
-fn closing(text: &[u8], start: usize, to: usize, close: Option<Closing>) -> Option<Fix>
-    requires { start ≤ length text.now }
-    ensures { result ≡ closing text.now start to close }
-{
-    let missing = closing_in(inside_item(part(text, start, to)), close?)?;
-    Some(Fix {
-        place: solid_end(text, start, to),
-        missing,
-    })
-}
-
-/// What is missing between the parts of an entry, given the text behind the second place: the closing sign before an item, a
-/// comma before a field.
-fn between(
-    text: &[u8],
+/// An item of a text with a fault.
+#[derive(Clone, Copy)]
+struct FaultyItem<'a> {
+    text: &'a [u8],
+    item: &'a Item,
+    /// Where the item begins.
     start: usize,
+    /// Where its fault is.
     end: usize,
-    rest: &[u8],
-    close: Option<Closing>,
-) -> Option<Fix>
-    requires { start ≤ length text.now }
-    ensures { result ≡ between text.now start end rest.now close }
-{
-    if begins_item(rest) {
-        closing(text, start, end, close)
-    } else if begins_field(rest) {
+}
+
+impl FaultyItem<'_> {
+    /// Where the item's text up to a place ends without the white space at its end.
+    fn solid_end(&self, to: usize) -> usize
+        requires { self.now.start ≤ length self.now.text.now }
+        ensures { result ≡ solid_end self.now.text.now self.now.start to }
+    {
+        self.start + trim_end(part(self.text, self.start, to)).len()
+    }
+
+    /// What closes the item before a place, if it was opened.
+    fn closing(&self, to: usize) -> Option<Fix>
+        requires { self.now.start ≤ length self.now.text.now }
+        ensures { result ≡ closing self.now.text.now self.now.start to self.now.item.now.close }
+    {
+        let inside = inside_item(part(self.text, self.start, to));
+        let missing = closing_in(inside, self.item.close?)?;
         Some(Fix {
-            place: solid_end(text, start, end),
-            missing: Missing::Comma,
+            place: self.solid_end(to),
+            missing,
         })
-    } else {
-        None
     }
-}
 
-/// What is missing between the parts of an item: a comma or the closing sign in an entry, otherwise the closing sign.
-fn separator(text: &[u8], start: usize, end: usize, item: &Item) -> Option<Fix>
-    requires { start ≤ length text.now }
-    ensures { result ≡ separator text.now start end item.now.content item.now.close }
-{
-    match &item.content {
-        Content::Entry(_) => {
-            let rest = part(text, end, text.len());
-            between(text, start, end, rest, item.close)
-        }
-        Content::Define(_) | Content::Preamble(_) => closing(text, start, end, item.close),
-    }
-}
-
-/// What closes an entry before the next item, if the head of that item was read as a field's name.
-fn before_item(text: &[u8], start: usize, end: usize, item: &Item) -> Option<Fix>
-    requires { start ≤ length text.now }
-    ensures { result ≡ before_item text.now start end item.now.content item.now.close }
-{
-    let place = last_word(text, start, end);
-    match &item.content {
-        Content::Entry(_) => if begins_item(part(text, place, end)) {
-            closing(text, start, place, item.close)
-        } else {
-            None
-        },
-        Content::Define(_) | Content::Preamble(_) => None,
-    }
-}
-
-/// The closing quote of a value in which the closing sign of its item was read. That sign begins its line.
-fn value_end(text: &[u8], start: usize, end: usize, close: Option<Closing>) -> Option<Fix>
-    requires { start ≤ length text.now }
-    ensures { result ≡ value_end text.now start end close }
-{
-    let place = solid_end(text, start, end);
-    match close {
-        Some(Closing::Brace) => if has_line_end(part(text, place, end)) {
+    /// What is missing between the parts of an entry, given the text behind the fault: the closing sign before an item, a comma
+    /// before a field.
+    fn between(&self, rest: &[u8]) -> Option<Fix>
+        requires { self.now.start ≤ length self.now.text.now }
+        ensures { result ≡ between self.now.text.now self.now.start self.now.end rest.now self.now.item.now.close }
+    {
+        if begins_item(rest) {
+            self.closing(self.end)
+        } else if begins_field(rest) {
             Some(Fix {
-                place,
-                missing: Missing::ValueEnd,
+                place: self.solid_end(self.end),
+                missing: Missing::Comma,
             })
         } else {
             None
-        },
-        Some(Closing::Parenthesis) | None => None,
+        }
     }
-}
 
-/// What is missing in an item between two places of a text, given its fault, which is at the second place. An item that the
-/// text's end cuts off is closed before the next line that begins with an `@`.
-fn missing_by(text: &[u8], start: usize, end: usize, item: &Item, fault: ItemFault) -> Option<Fix>
-    requires { start ≤ length text.now }
-    ensures { result ≡ missing_by text.now start end item.now fault }
-{
-    match fault {
-        ItemFault::ExpectedCommaOrClose => separator(text, start, end, item),
-        ItemFault::EndOfFile => {
-            let count = before_entry(text.split_at(start).1);
-            closing(text, start, start + count, item.close)
+    /// What is missing between the parts of an item: a comma or the closing sign in an entry, otherwise the closing sign.
+    fn separator(&self) -> Option<Fix>
+        requires { self.now.start ≤ length self.now.text.now }
+        ensures { result ≡ separator self.now.text.now self.now.start self.now.end self.now.item.now.content
+            self.now.item.now.close }
+    {
+        match &self.item.content {
+            Content::Entry(_) => self.between(part(self.text, self.end, self.text.len())),
+            Content::Define(_) | Content::Preamble(_) => self.closing(self.end),
         }
-        ItemFault::BadNameEnd(_, _) | ItemFault::ExpectedEquals => {
-            before_item(text, start, end, item)
+    }
+
+    /// What closes an entry before the next item, if the head of that item was read as a field's name.
+    fn before_item(&self) -> Option<Fix>
+        requires { self.now.start ≤ length self.now.text.now }
+        ensures { result ≡ before_item self.now.text.now self.now.start self.now.end self.now.item.now.content
+            self.now.item.now.close }
+    {
+        let place = last_word(self.text, self.start, self.end);
+        match &self.item.content {
+            Content::Entry(_) => if begins_item(part(self.text, place, self.end)) {
+                self.closing(place)
+            } else {
+                None
+            },
+            Content::Define(_) | Content::Preamble(_) => None,
         }
-        ItemFault::UnbalancedBraces => value_end(text, start, end, item.close),
-        ItemFault::MissingName(_) | ItemFault::ExpectedOpen | ItemFault::MissingPart => None,
+    }
+
+    /// The closing quote of a value in which the closing sign of its item was read. That sign begins its line.
+    fn value_end(&self) -> Option<Fix>
+        requires { self.now.start ≤ length self.now.text.now }
+        ensures { result ≡ value_end self.now.text.now self.now.start self.now.end self.now.item.now.close }
+    {
+        let place = self.solid_end(self.end);
+        match self.item.close {
+            Some(Closing::Brace) => if has_line_end(part(self.text, place, self.end)) {
+                Some(Fix {
+                    place,
+                    missing: Missing::ValueEnd,
+                })
+            } else {
+                None
+            },
+            Some(Closing::Parenthesis) | None => None,
+        }
+    }
+
+    /// What is missing in the item, given its fault. An item that the text's end cuts off is closed before the next line that
+    /// begins with an `@`.
+    fn missing_by(&self, fault: ItemFault) -> Option<Fix>
+        requires { self.now.start ≤ length self.now.text.now }
+        ensures { result ≡ missing_by self.now.text.now self.now.start self.now.end self.now.item.now fault }
+    {
+        match fault {
+            ItemFault::ExpectedCommaOrClose => self.separator(),
+            ItemFault::EndOfFile => {
+                let count = before_entry(self.text.split_at(self.start).1);
+                self.closing(self.start + count)
+            }
+            ItemFault::BadNameEnd(_, _) | ItemFault::ExpectedEquals => self.before_item(),
+            ItemFault::UnbalancedBraces => self.value_end(),
+            ItemFault::MissingName(_) | ItemFault::ExpectedOpen | ItemFault::MissingPart => None,
+        }
     }
 }
 
@@ -273,8 +277,14 @@ fn missing_in(text: &[u8], start: usize, end: usize, item: &Item) -> Option<Fix>
     requires { start ≤ length text.now }
     ensures { result ≡ missing_in text.now start end item.now }
 {
+    let faulty = FaultyItem {
+        text,
+        item,
+        start,
+        end,
+    };
     match item.fault {
-        Some(fault) => missing_by(text, start, end, item, fault),
+        Some(fault) => faulty.missing_by(fault),
         None => None,
     }
 }
@@ -337,24 +347,21 @@ pub fn array_if_any(list: Vec<Value>) -> Value
     }
 }
 
-fn actions_in(
-    alloc: Global,
-    document: &Document,
-    pieces: &[PlacedPiece],
-    place: usize,
-) -> Result<Value, AllocError>
-    requires { 2 * length document.now.text < 2 ^ 64 }
-    ensures { IfOk result (λ v. view v ≡ actions_in document.now pieces.now place) }
+fn actions_in(alloc: Global, database: &Database<'_>, place: usize) -> Result<Value, AllocError>
+    requires { 2 * length database.now.document.now.text < 2 ^ 64 }
+    ensures { IfOk result (λ v. view v ≡ actions_in database.now.document.now database.now.pieces.now place) }
 {
-    let text = document.text.as_slice();
-    let list = with_removal(alloc, document, Vec::new(alloc), repeated(pieces, place))?;
+    let Database { document, pieces } = *database;
+    let around = item_around(pieces, place);
+    let repeated = repeated_entry(pieces, place);
+    let list = with_removal(alloc, document, Vec::new(alloc), repeated)?;
     let list = with_fix(
         alloc,
         document,
         list,
-        fix_of(text, item_around(pieces, place)),
+        fix_of(document.text.as_slice(), around),
     )?;
-    let list = with_respellings_around(alloc, document, pieces, list, item_around(pieces, place))?;
+    let list = database.with_respellings_around(alloc, list, around)?;
     Ok(array_if_any(list))
 }
 
@@ -367,7 +374,8 @@ fn actions_at(alloc: Global, document: &Document, at: Position) -> Result<Value,
     }
     let place = document.text.offset_of(document.counting, at);
     let items = read_bib(alloc, text)?;
-    actions_in(alloc, document, items.pieces(), place)
+    let pieces = items.pieces();
+    actions_in(alloc, &Database { document, pieces }, place)
 }
 
 /// The actions at the start of the range that a message has.

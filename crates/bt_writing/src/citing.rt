@@ -8,12 +8,11 @@ ghost use Rattle.bt_writing.specs.Citing.{after_sign, candidate, candidate_of, c
 
 use crate::written::Written;
 use bt_bib::{PlacedPiece, read_bib};
-use bt_documents::Document;
 use bt_mentions::is_citing;
 use bt_places::{
-    Paper, closed, field_of, is_database, is_tex, key_of, keys_at_end, kind_of, shown, with_value,
+    Cursor, Paper, closed, field_of, is_database, is_tex, key_of, keys_at_end, kind_of, shown,
+    with_value,
 };
-use bt_positions::Position;
 use bt_text::Bytes;
 use serde_json::{Value, json};
 use std::alloc::{AllocError, Global};
@@ -28,21 +27,27 @@ fn append_after(bytes: &mut Bytes, sign: &[u8], text: &[u8]) -> Result<(), Alloc
     bytes.append_all(&[sign, text])
 }
 
-/// A text, then two others, each after its sign unless it is empty; as UTF-8.
-fn joined(
+/// What tells an entry apart for a reader; each empty if it has none.
+#[derive(Clone, Copy)]
+struct Summary<'a> {
+    author: &'a [u8],
+    title: &'a [u8],
+}
+
+/// A text, then the author and the title, each after its sign unless it is empty; as UTF-8.
+fn with_summary(
     alloc: Global,
     text: &[u8],
     first: &[u8],
-    author: &[u8],
     second: &[u8],
-    title: &[u8],
+    summary: &Summary<'_>,
 ) -> Result<String, AllocError>
-    ensures { IfOk result (λ words. string_bytes words ≡ as_utf8 (after_sign second.now title.now
-        (after_sign first.now author.now text.now))) }
+    ensures { IfOk result (λ words. string_bytes words ≡ as_utf8 (after_sign second.now summary.now.title.now
+        (after_sign first.now summary.now.author.now text.now))) }
 {
     let mut bytes = Bytes::copied(alloc, text)?;
-    append_after(&mut bytes, first, author)?;
-    append_after(&mut bytes, second, title)?;
+    append_after(&mut bytes, first, summary.author)?;
+    append_after(&mut bytes, second, summary.title)?;
     shown(alloc, bytes.as_slice())
 }
 
@@ -51,13 +56,13 @@ fn candidate(
     written: Written,
     key: &[u8],
     kind: &[u8],
-    author: &[u8],
-    title: &[u8],
+    summary: &Summary<'_>,
 ) -> Result<Value, AllocError>
-    ensures { IfOk result (λ v. view v ≡ candidate written key.now kind.now author.now title.now) }
+    ensures { IfOk result (λ v. view v ≡
+        candidate written key.now kind.now summary.now.author.now summary.now.title.now) }
 {
-    let detail = joined(alloc, kind, b": ", author, b". ", title)?;
-    let filter = joined(alloc, key, b" ", author, b" ", title)?;
+    let detail = with_summary(alloc, kind, b": ", b". ", summary)?;
+    let filter = with_summary(alloc, key, b" ", b" ", summary)?;
     let label = shown(alloc, key)?;
     let edit = written.edit(alloc, key)?;
     json!(in alloc; {"label": label, "kind": 18, "detail": detail, "filterText": filter, "textEdit": edit})
@@ -77,7 +82,8 @@ fn add_candidate(
     }
     let author = field_of(piece, b"author");
     let title = field_of(piece, b"title");
-    let value = candidate(alloc, written, key, kind_of(piece), author, title)?;
+    let summary = Summary { author, title };
+    let value = candidate(alloc, written, key, kind_of(piece), &summary)?;
     let all = with_value(list, value)?;
     Ok(all)
 }
@@ -144,12 +150,12 @@ fn cites(alloc: Global, name: &[u8], front: &[u8]) -> Result<bool, AllocError>
 pub fn citation_at<P: Paper>(
     alloc: Global,
     paper: &P,
-    document: &Document,
-    at: Position,
+    cursor: &Cursor<'_>,
 ) -> Result<Value, AllocError>
-    requires { 2 * length document.now.text < 2 ^ 64 }
-    ensures { IfOk result (λ v. view v ≡ citation_at (P.shown paper.now).files document.now at) }
+    requires { 2 * length cursor.now.document.now.text < 2 ^ 64 }
+    ensures { IfOk result (λ v. view v ≡ citation_at (P.shown paper.now).files cursor.now.document.now cursor.now.at) }
 {
+    let Cursor { document, at } = *cursor;
     let place = document.text.offset_of(document.counting, at);
     let front = document.text.as_slice().split_at(place).0;
     if !cites(alloc, document.name.as_slice(), front)? {

@@ -16,10 +16,9 @@ use bt_bib::{Field, PlacedPiece, read_bib};
 use bt_documents::Document;
 use bt_mentions::{Inside, Mention, inside_item, part};
 use bt_places::{
-    Paper, Pick, SHOWN_BYTES, Visit, fields_of, is_database, item_around, shown, with_files,
-    with_picked, with_value,
+    Cursor, NamedText, Paper, Pick, SHOWN_BYTES, Visit, fields_of, is_database, item_around, shown,
+    with_files, with_picked, with_value,
 };
-use bt_positions::{IndexedText, Position};
 use serde_json::{Value, json};
 use std::alloc::{AllocError, Global};
 
@@ -119,21 +118,15 @@ impl Pick for MacroNames {
     fn pick(
         &self,
         alloc: Global,
-        uri: &[u8],
-        text: &IndexedText,
+        file: &NamedText<'_>,
         list: Vec<Value>,
         one: Mention,
     ) -> Result<Vec<Value>, AllocError> {
-        let _ = uri;
         if !is_definition(one.role) {
             return Ok(list);
         }
-        with_name(
-            alloc,
-            self.written,
-            part(text.as_slice(), one.from, one.to),
-            list,
-        )
+        let name = part(file.text.as_slice(), one.from, one.to);
+        with_name(alloc, self.written, name, list)
     }
 }
 
@@ -204,15 +197,11 @@ fn offers_around<P: Paper>(
     offers(alloc, paper, present_in(around), offer_at(front), written)
 }
 
-fn database_at<P: Paper>(
-    alloc: Global,
-    paper: &P,
-    document: &Document,
-    at: Position,
-) -> Result<Value, AllocError>
-    requires { 2 * length document.now.text < 2 ^ 64 }
-    ensures { IfOk result (λ v. view v ≡ database_at (P.shown paper.now).files document.now at) }
+fn database_at<P: Paper>(alloc: Global, paper: &P, cursor: &Cursor<'_>) -> Result<Value, AllocError>
+    requires { 2 * length cursor.now.document.now.text < 2 ^ 64 }
+    ensures { IfOk result (λ v. view v ≡ database_at (P.shown paper.now).files cursor.now.document.now cursor.now.at) }
 {
+    let Cursor { document, at } = *cursor;
     let place = document.text.offset_of(document.counting, at);
     let items = read_bib(alloc, document.text.as_slice())?;
     let around = item_around(items.pieces(), place);
@@ -225,16 +214,16 @@ fn database_at<P: Paper>(
 pub fn completion_at<P: Paper>(
     alloc: Global,
     paper: &P,
-    document: &Document,
-    at: Position,
+    cursor: &Cursor<'_>,
 ) -> Result<Value, AllocError>
-    ensures { IfOk result (λ v. view v ≡ completion_at (P.shown paper.now).files document.now at) }
+    ensures { IfOk result (λ v. view v ≡ completion_at (P.shown paper.now).files cursor.now.document.now cursor.now.at) }
 {
+    let document = cursor.document;
     if document.text.as_slice().len() > SHOWN_BYTES {
         Ok(Value::Null)
     } else if is_database(document.name.as_slice()) {
-        database_at(alloc, paper, document, at)
+        database_at(alloc, paper, cursor)
     } else {
-        citation_at(alloc, paper, document, at)
+        citation_at(alloc, paper, cursor)
     }
 }

@@ -8,13 +8,12 @@ ghost use Rattle.bt_writing.specs.Finding.{place_in, location_in, found_in, foun
 use crate::written::has_opening;
 use bt_answers::{Loan, macro_at};
 use bt_bib::{PlacedPiece, read_bib};
-use bt_documents::Document;
 use bt_mentions::part;
 use bt_places::{
-    Editor, Paper, SHOWN_BYTES, is_database, item_around, key_of, kind_of, location, range_of,
-    with_files, word_of,
+    Cursor, Editor, Paper, SHOWN_BYTES, is_database, item_around, key_of, kind_of, location,
+    range_of, with_files, word_of,
 };
-use bt_positions::{Counting, IndexedText, Position};
+use bt_positions::{Counting, IndexedText};
 use bt_style_answers::Lent;
 use bt_text::{Bytes, eq_ignore_ascii_case};
 use serde_json::Value;
@@ -80,13 +79,12 @@ fn found_at<P: Paper>(
     alloc: Global,
     paper: &P,
     editor: &Editor<'_>,
-    document: &Document,
-    at: Position,
+    cursor: &Cursor<'_>,
 ) -> Result<Value, AllocError>
     ensures { IfOk result (λ v. view v ≡
-        found_at (P.shown paper.now).files editor.now.documents.now editor.now.counting document.now at) }
+        found_at (P.shown paper.now).files editor.now.documents.now editor.now.counting cursor.now.document.now cursor.now.at) }
 {
-    let found = found_in(alloc, paper, editor, word_of(document, at))?;
+    let found = found_in(alloc, paper, editor, word_of(cursor))?;
     Ok(found)
 }
 
@@ -104,9 +102,10 @@ fn type_of<'a>(around: Option<&'a PlacedPiece>, text: &[u8], place: usize) -> &'
     }
 }
 
-fn type_at(alloc: Global, document: &Document, at: Position) -> Result<Bytes, AllocError>
-    ensures { IfOk result (λ kind. kind ≡ type_at document.now at) }
+fn type_at(alloc: Global, cursor: &Cursor<'_>) -> Result<Bytes, AllocError>
+    ensures { IfOk result (λ kind. kind ≡ type_at cursor.now.document.now cursor.now.at) }
 {
+    let Cursor { document, at } = *cursor;
     if !is_database(document.name.as_slice()) {
         return Ok(Bytes::new(alloc));
     }
@@ -140,15 +139,15 @@ fn typed_or_found<P: Paper>(
     alloc: Global,
     paper: &P,
     editor: &Editor<'_>,
-    document: &Document,
-    at: Position,
+    cursor: &Cursor<'_>,
     kind: &[u8],
 ) -> Result<Value, AllocError>
     ensures { IfOk result (λ v. view v ≡
-        typed_or_found (P.shown paper.now).files editor.now.documents.now editor.now.counting document.now at kind.now) }
+        typed_or_found (P.shown paper.now).files editor.now.documents.now editor.now.counting cursor.now.document.now
+        cursor.now.at kind.now) }
 {
     match kind {
-        [] => found_at(alloc, paper, editor, document, at),
+        [] => found_at(alloc, paper, editor, cursor),
         [_, ..] => type_places(alloc, paper, editor, kind),
     }
 }
@@ -159,17 +158,16 @@ pub fn definition_at<P: Paper>(
     alloc: Global,
     paper: &P,
     editor: &Editor<'_>,
-    document: &Document,
-    at: Position,
+    cursor: &Cursor<'_>,
 ) -> Result<Value, AllocError>
     ensures { IfOk result (λ v. view v ≡
-        definition_at (P.shown paper.now).files editor.now.documents.now editor.now.counting document.now at) }
+        definition_at (P.shown paper.now).files editor.now.documents.now editor.now.counting cursor.now.document.now cursor.now.at) }
 {
-    match macro_at(alloc, paper, editor, document, at)? {
+    match macro_at(alloc, paper, editor, cursor)? {
         Some(found) => Ok(found),
         None => {
-            let kind = type_at(alloc, document, at)?;
-            let found = typed_or_found(alloc, paper, editor, document, at, kind.as_slice())?;
+            let kind = type_at(alloc, cursor)?;
+            let found = typed_or_found(alloc, paper, editor, cursor, kind.as_slice())?;
             Ok(found)
         }
     }

@@ -4,8 +4,10 @@ ghost use Rattle.std.specs.Prelude.{◌≡◌, ◌<◌, ◌*◌, ◌^◌, length
 ghost use Rattle.serde_json.specs.View.{view};
 ghost use Rattle.bt_writing.specs.QuickFix.{action, edit_at};
 
-use bt_answers::{with_edits, with_text_edit, workspace_edit};
+use bt_answers::{with_edits, workspace_edit};
 use bt_documents::Document;
+use bt_places::{range_of, with_value};
+use bt_shapes::text_edit;
 use serde_json::{Value, json};
 use std::alloc::{AllocError, Global};
 
@@ -27,9 +29,8 @@ pub fn edit_at(
     requires { 2 * length document.now.text < 2 ^ 64 }
     ensures { IfOk result (λ v. view v ≡ edit_at document.now from to new.now) }
 {
-    let list = Vec::new(alloc);
-    let counting = document.counting;
-    let edits = with_text_edit(alloc, counting, &document.text, list, from, to, new)?;
+    let range = range_of(alloc, document.counting, &document.text, from, to)?;
+    let edits = with_value(Vec::new(alloc), text_edit(alloc, range, new)?)?;
     let files = with_edits(alloc, Vec::new(alloc), document.name.as_slice(), edits)?;
     workspace_edit(alloc, files)
 }

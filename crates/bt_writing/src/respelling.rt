@@ -29,7 +29,7 @@ fn spelled_in<'a>(pieces: &'a [PlacedPiece], key: &[u8]) -> Option<&'a [u8]>
 }
 
 /// How the first entry of a key spells it, if it does so otherwise.
-fn respelled<'a>(pieces: &'a [PlacedPiece], key: &[u8]) -> Option<&'a [u8]>
+fn other_spelling<'a>(pieces: &'a [PlacedPiece], key: &[u8]) -> Option<&'a [u8]>
     ensures { option_map (λ s. s.now) result ≡ respelled key.now pieces.now }
 {
     let own = spelled_in(pieces, key)?;
@@ -71,76 +71,88 @@ fn with_own(
     }
 }
 
-fn with_respelling(
-    alloc: Global,
-    document: &Document,
-    pieces: &[PlacedPiece],
-    list: Vec<Value>,
-    one: Mention,
-) -> Result<Vec<Value>, AllocError>
-    requires { 2 * length document.now.text < 2 ^ 64 }
-    ensures { IfOk result (λ all. map view all.items ≡
-        with_respelling document.now pieces.now (map view list.items) one) }
-{
-    if !is_parent(one.role) {
-        return Ok(list);
-    }
-    let key = part(document.text.as_slice(), one.from, one.to);
-    let all = with_own(alloc, document, one, list, respelled(pieces, key))?;
-    Ok(all)
+/// A database: its document, and the items of its text.
+#[derive(Clone, Copy)]
+pub struct Database<'a> {
+    pub document: &'a Document,
+    pub pieces: &'a [PlacedPiece],
 }
 
-fn with_each(
-    alloc: Global,
-    document: &Document,
-    pieces: &[PlacedPiece],
-    list: Vec<Value>,
-    found: &[Mention],
-) -> Result<Vec<Value>, AllocError>
-    requires { 2 * length document.now.text < 2 ^ 64 }
-    ensures { IfOk result (λ all. map view all.items ≡
-        fold (with_respelling document.now pieces.now) (map view list.items) found.now) }
-{
-    let mut all = list;
-    'found: for one in found {
-        all = with_respelling(alloc, document, pieces, all, *one)?;
-    }
-    Ok(all)
-}
-
-/// Adds the actions that spell the cross-references of an item like the entries that they name.
-fn with_respellings(
-    alloc: Global,
-    document: &Document,
-    pieces: &[PlacedPiece],
-    list: Vec<Value>,
-    piece: &PlacedPiece,
-) -> Result<Vec<Value>, AllocError>
-    requires { 2 * length document.now.text < 2 ^ 64 }
-    ensures { IfOk result (λ all. map view all.items ≡
-        with_respellings document.now pieces.now (map view list.items) piece.now) }
-{
-    let found = with_piece(document.text.as_slice(), Sequence::new(alloc), piece)?;
-    with_each(alloc, document, pieces, list, found.as_slice())
-}
-
-/// The same for the item around a place, if there is one.
-pub fn with_respellings_around(
-    alloc: Global,
-    document: &Document,
-    pieces: &[PlacedPiece],
-    list: Vec<Value>,
-    around: Option<&PlacedPiece>,
-) -> Result<Vec<Value>, AllocError>
-    requires { 2 * length document.now.text < 2 ^ 64 }
-    ensures { IfOk result (λ all. map view all.items ≡
-        with_respellings_around document.now pieces.now (map view list.items) (option_map (λ p. p.now) around.entry)) }
-{
-    match around {
-        Some(piece) => {
-            let all = with_respellings(alloc, document, pieces, list, piece)?;
-            Ok(all)
+impl Database<'_> {
+    fn with_respelling(
+        &self,
+        alloc: Global,
+        list: Vec<Value>,
+        one: Mention,
+    ) -> Result<Vec<Value>, AllocError>
+        requires { 2 * length self.now.document.now.text < 2 ^ 64 }
+        ensures { IfOk result (λ all. map view all.items ≡
+            with_respelling self.now.document.now self.now.pieces.now (map view list.items) one) }
+    {
+        if !is_parent(one.role) {
+            return Ok(list);
         }
-        None => Ok(list),
+        let key = part(self.document.text.as_slice(), one.from, one.to);
+        let all = with_own(
+            alloc,
+            self.document,
+            one,
+            list,
+            other_spelling(self.pieces, key),
+        )?;
+        Ok(all)
+    }
+
+    fn with_each(
+        &self,
+        alloc: Global,
+        list: Vec<Value>,
+        found: &[Mention],
+    ) -> Result<Vec<Value>, AllocError>
+        requires { 2 * length self.now.document.now.text < 2 ^ 64 }
+        ensures { IfOk result (λ all. map view all.items ≡
+            fold (with_respelling self.now.document.now self.now.pieces.now) (map view list.items) found.now) }
+    {
+        let mut all = list;
+        'found: for one in found {
+            all = self.with_respelling(alloc, all, *one)?;
+        }
+        Ok(all)
+    }
+
+    /// Adds the actions that spell the cross-references of an item like the entries that they name.
+    fn with_respellings(
+        &self,
+        alloc: Global,
+        list: Vec<Value>,
+        piece: &PlacedPiece,
+    ) -> Result<Vec<Value>, AllocError>
+        requires { 2 * length self.now.document.now.text < 2 ^ 64 }
+        ensures { IfOk result (λ all. map view all.items ≡
+            with_respellings self.now.document.now self.now.pieces.now (map view list.items) piece.now) }
+    {
+        let text = self.document.text.as_slice();
+        let found = with_piece(text, Sequence::new(alloc), piece)?;
+        self.with_each(alloc, list, found.as_slice())
+    }
+
+    /// The same for the item around a place, if there is one.
+    pub fn with_respellings_around(
+        &self,
+        alloc: Global,
+        list: Vec<Value>,
+        around: Option<&PlacedPiece>,
+    ) -> Result<Vec<Value>, AllocError>
+        requires { 2 * length self.now.document.now.text < 2 ^ 64 }
+        ensures { IfOk result (λ all. map view all.items ≡ with_respellings_around self.now.document.now self.now.pieces.now
+            (map view list.items) (option_map (λ p. p.now) around.entry)) }
+    {
+        match around {
+            Some(piece) => {
+                let all = self.with_respellings(alloc, list, piece)?;
+                Ok(all)
+            }
+            None => Ok(list),
+        }
     }
 }

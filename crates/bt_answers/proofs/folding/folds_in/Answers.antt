@@ -5,5 +5,5 @@ use Rattle.bt_answers.proofs.folding.folds_in.Goals as goal
 
 pub pieces-preserved : goal.pieces-preserved
 pieces-preserved c =
-    filtered_more (fold_of c.args.counting c.args.text.now) c.args.pieces.now c.pieces.piece-index c.piece-item.result _ _ _ (omega (arith, c.pieces-test.true)) c.piece-item.is
+    filtered_more (fold_of c.args.document.now.counting c.args.document.now.text) c.args.pieces.now c.pieces.piece-index c.piece-item.result _ _ _ (omega (arith, c.pieces-test.true)) c.piece-item.is
     c.in_ok-list.ensures c.pieces.invariant

@@ -5,4 +5,4 @@ use Rattle.bt_answers.proofs.folding.folds_in.Given as goal
 
 abbrev pub invariant-pieces : goal.invariant-pieces
 invariant-pieces l =
-    map view l.list.items ++ folds_in l.counting l.text (drop l.piece-index l.pieces) ≡ folds_in l.counting l.text l.pieces
+    map view l.list.items ++ folds_in l.document.counting l.document.text (drop l.piece-index l.pieces) ≡ folds_in l.document.counting l.document.text l.pieces

@@ -5,4 +5,4 @@ use Rattle.bt_answers.proofs.outline.symbols_in.Given as goal
 
 abbrev pub invariant-pieces : goal.invariant-pieces
 invariant-pieces l =
-    map view l.list.items ++ symbols_in l.counting l.text (drop l.piece-index l.pieces) ≡ symbols_in l.counting l.text l.pieces
+    map view l.list.items ++ symbols_in l.document.counting l.document.text (drop l.piece-index l.pieces) ≡ symbols_in l.document.counting l.document.text l.pieces

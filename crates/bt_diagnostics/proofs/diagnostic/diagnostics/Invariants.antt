@@ -4,4 +4,4 @@ use Rattle.bt_diagnostics.specs.Diagnostics.{diagnostics}
 use Rattle.bt_diagnostics.proofs.diagnostic.diagnostics.Given as goal
 
 abbrev pub invariant-messages : goal.invariant-messages
-invariant-messages l = l.shown ≡ diagnostics l.name l.counting l.text l.keys.role (known l.keys.spans) (take l.message-index l.messages)
+invariant-messages l = l.shown ≡ diagnostics l.file.name.now l.file.counting l.file.text.now l.keys.role (known l.keys.spans) (take l.message-index l.messages)

@@ -6,5 +6,5 @@ use Rattle.bt_lsp.proofs.news.with_diagnostics.Goals as goal
 
 pub documents-preserved : goal.documents-preserved
 documents-preserved g c =
-    mapped_more view (published_of c.args.extras.now.relates c.args.extras.now.step_words.now (g.P.Paper.shown c.args.paper.now) c.args.extras.now.checked.now) c.args.documents.now c.documents.document-index c.document-item.result _ _ _ _
+    mapped_more view (published_of g.P.Paper.shown c.args.server.now) c.args.documents.now c.documents.document-index c.document-item.result _ _ _ _
     (omega (arith, c.documents-test.true)) c.document-item.is c.in_ok-push.ensures.items c.in_ok-published_of.ensures c.documents.invariant
