@@ -117,11 +117,28 @@ impl AuxTexts {
     }
 
     /// What the files ask for, if that is known.
-    fn known_citations(&self, files: &[File], root: &[u8]) -> Option<&Shared<Citations>>
+    pub fn known_citations(&self, files: &[File], root: &[u8]) -> Option<&Shared<Citations>>
         ensures { IfSome result (λ asked. asked.now ≡ citations files.now root.now) }
     {
         let last = self.asked.as_ref()?;
         if last.is_asked(files, root) {
+            return Some(&last.asked);
+        }
+        None
+    }
+
+    /// What these files ask for, if that is known and others are known to ask for the same.
+    pub fn known_for_both(
+        &self,
+        files: &[File],
+        others: &[File],
+        root: &[u8],
+    ) -> Option<&Shared<Citations>>
+        ensures files { IfSome result (λ asked. asked.now ≡ citations files.now root.now) }
+        ensures others { IfSome result (λ asked. asked.now ≡ citations others.now root.now) }
+    {
+        let last = self.asked.as_ref()?;
+        if last.is_asked(files, root) && last.is_asked(others, root) {
             return Some(&last.asked);
         }
         None

@@ -1,6 +1,6 @@
 -- What an edit of one entry makes of a kept resolution.
-use Rattle.std.proofs.Common.{◌≡◌, ◌∙◌, ap, sym, refl, subst, append_assoc, ℕ, ◌+◌, ◌-◌, ◌<◌, ◌≤◌, IsTrue, List, [], ◌∷◌, ◌++◌, length, map, take, drop, reverse, get_or, Option, Some, None, arith}
-use Rattle.std.specs.Prelude.{IfSome, slice_get}
+use Rattle.std.proofs.Common.{◌≡◌, ◌∙◌, ap, sym, refl, subst, append_assoc, ℕ, zero, suc, ◌+◌, ◌-◌, ◌<◌, ◌≤◌, IsTrue, List, [], ◌∷◌, ◌++◌, length, map, take, drop, reverse, get_or, Option, Some, None, arith}
+use Rattle.std.specs.Prelude.{IfSome, slice_get, slice_set}
 use Rattle.std.proofs.lemmas.List.{length-map, take_rest}
 use Rattle.std.proofs.lemmas.Option.{slice_get_read, slice_get_within}
 use Rattle.bt_bib.specs.Boundaries.{moved_piece}
@@ -22,8 +22,9 @@ use Rattle.bt_resolve.specs.declared.kept.Found.{Found}
 use Rattle.bt_resolve.specs.declared.kept.ResolvedEdit.{ResolvedEdit}
 use Rattle.bt_resolve.specs.declared.question.Question.{Question}
 use Rattle.bt_resolve.specs.declared.reading.Reach.{Reach}
+use Rattle.bt_resolve.specs.declared.seen_edit.OtherEntries.{OtherEntries}
 use Rattle.bt_resolve.specs.declared.seen_edit.SeenEdit.{SeenEdit}
-use Rattle.bt_resolve.specs.declared.seen_edit.SeenEdit.TheVariants.{Others}
+use Rattle.bt_resolve.specs.declared.seen_edit.SeenEdit.TheVariants.{Same, Others}
 use Rattle.bt_resolve.specs.declared.span.Span.{Span}
 use Rattle.bt_resolve.specs.declared.stored.Stored.{Stored}
 use Rattle.bt_resolve.specs.Edited.{Edit, databases_before, databases_after, items_before, number_of, stored_by, stored_first, told_by}
@@ -34,7 +35,7 @@ use Rattle.bt_resolve.specs.Skeletons.{skeleton, AreAlike, AreInPlace, shown}
 use Rattle.bt_resolve.specs.Listed.{listed}
 use Rattle.bt_resolve.specs.inner.Inheritance.{values_read}
 use Rattle.bt_resolve.specs.inner.Databases.{DefineNothing, State, after_items, after_databases, nothing_read, resolved_of}
-use Rattle.bt_resolve.specs.inner.Kept.{AreBefore, AreKept, IsAround, IsEditOf, IsFound, IsNewSpan, IsPlace, IsResolvedEdit, IsSeenEdit, IsShort, IsSpanEdit, IsSpared, IsWithin, asked_by, items_in, macros_before, macros_behind, mark_of, new_values, other_entries, reaches_for, replaced, resolved_for, stored_for, with_database, with_own, with_seen}
+use Rattle.bt_resolve.specs.inner.Kept.{AreBefore, AreKept, IsAround, IsEditOf, IsFound, IsNewSpan, IsPlace, IsResolvedEdit, IsSeenEdit, IsShort, IsStoredEdit, IsSpanEdit, IsSpared, IsWithin, asked_by, items_in, macros_before, macros_behind, mark_of, new_values, other_entries, reaches_for, replaced, resolved_for, stored_for, with_database, with_own, with_seen}
 use Rattle.bt_resolve.specs.inner.Patches.{patched}
 use Rattle.bt_resolve.specs.Values.{MacroTexts}
 use Rattle.bt_resolve.specs.inner.Reaches.{database_reaches}
@@ -64,6 +65,27 @@ seen_messages q = refl
 seen_preamble : (q : Question) → (resolved_for q).preamble ≡ preamble q.declared.macros (items_in q)
 unfolding resolved
 seen_preamble q = refl
+
+-- ---- what is stored
+
+abbrev first_of : Stored → List Stored → Stored
+first_of s [] = s
+first_of s (t ∷ ts) = t
+
+same_stored : (ss ts : List Stored) → AreAlike ss ts → values_read ss ≡ values_read ts → ss ≡ ts
+same_stored [] [] alike values = refl
+same_stored [] (t ∷ ts) alike values = absurd cc
+same_stored (s ∷ ss) [] alike values = absurd cc
+same_stored (s ∷ ss) (t ∷ ts) alike values =
+    let bare : skeleton s ≡ skeleton t = ap (first_of s) alike in
+    let own : s.values ≡ t.values = ap (λ l. get_or l 0 []) values in
+    let rest : ss ≡ ts = same_stored ss ts (ap (drop 1) alike) (ap (drop 1) values) in
+    λ j. record { key = (bare j).key; kind = (bare j).kind; function = (bare j).function; crossref = (bare j).crossref; values = own j } ∷ rest j
+
+set_itself : {A : Type 0} (xs : List A) (k : ℕ) (x : A) → slice_get xs k ≡ Some x → slice_set xs k x ≡ xs
+set_itself [] k x is = refl
+set_itself (d ∷ xs) zero x is = λ j. sym (same_some d x is) j ∷ xs
+set_itself (d ∷ xs) (suc k) x is = ap (λ ys. d ∷ ys) (set_itself xs k x is)
 
 -- ---- the edit
 
@@ -232,17 +254,29 @@ module _ (q : Question) (number : ℕ) (items old : List PlacedPiece) (e : Items
           values = sym one.values;
         })
 
+    -- where nothing of what is stored changes
+    gives_same : is_stored_now ≡ was_stored → Gives Same
+    gives_same same = record {
+      place = tt;
+      entries = ap (entries_seen a q.min) same;
+      spared = λ k all. ap (λ (ss : List Stored). slice_get (entries_seen a q.min ss) k) (sym same);
+      values = ap values_read same;
+    }
+
+    stored_so : (t : Stored) (m : SeenEdit) → OnePatched (length (stored_first a ms ed)) t.values was_stored is_stored_now → (place : ℕ) → place ≡ length (stored_first a ms ed) → IsStoredEdit a q.min place f t m → Gives m
+    stored_so t Same one place place_is own =
+        let values_is : f.values ≡ values_read was_stored = found.values_read ∙ ap values_read stored_now in
+        let here : slice_get (values_read was_stored) (length (stored_first a ms ed)) ≡ Some t.values =
+        (λ j. slice_get (sym values_is j) (sym place_is j)) ∙ own
+        in
+        gives_same (same_stored is_stored_now was_stored (sym one.alike) (sym one.values ∙ set_itself (values_read was_stored) (length (stored_first a ms ed)) t.values here))
+    stored_so t (Others o) one place place_is are =
+        subst (λ (other : OtherEntries). Gives (Others other)) (sym are) (gives_others t one place place_is)
+
     by_stored : (ts : List Stored) → stored_by a ms ed ed.new ≡ ts → IsSeenEdit a q.min r.first.stored f ts made.seen → Gives made.seen
-    by_stored [] none is_same =
-        let same = nothing_patched a ms ed in_place none in
-        subst Gives (sym is_same) (record {
-          place = tt;
-          entries = ap (entries_seen a q.min) same;
-          spared = λ k all. ap (λ (ss : List Stored). slice_get (entries_seen a q.min ss) k) (sym same);
-          values = ap values_read same;
-        })
+    by_stored [] none is_same = subst Gives (sym is_same) (gives_same (nothing_patched a ms ed in_place none))
     by_stored (t ∷ []) one is_edit =
-        subst Gives (sym is_edit) (gives_others t (entry_patched a ms ed t in_place one) r.first.stored (stored_before q number items old e here is rs r there around))
+        stored_so t made.seen (entry_patched a ms ed t in_place one) r.first.stored (stored_before q number items old e here is rs r there around) is_edit
     by_stored (t ∷ u ∷ ts) more is_edit = absurd is_edit
 
     gives : Gives made.seen

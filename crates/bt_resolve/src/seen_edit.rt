@@ -56,8 +56,8 @@ impl EditView<'_, '_> {
         })
     }
 
-    /// What becomes of the entries that are seen, if at most one stored entry replaces another of its skeleton. None if
-    /// more than one are stored.
+    /// What becomes of the entries that are seen, if at most one stored entry replaces another of its skeleton: nothing, if
+    /// it has the same values. None if more than one are stored.
     pub fn seen_edit(&self, stored: &[Stored]) -> Result<Option<SeenEdit>, AllocError>
         ensures { IfOk result (λ edit. IfSome edit (λ e. IsSeenEdit self.now.asked.now self.now.min
             self.now.around.first.stored self.now.found.now stored.now e)) }
@@ -69,6 +69,10 @@ impl EditView<'_, '_> {
             return Ok(None);
         }
         let place = self.around.first.stored;
+        let own = self.found.values.as_slice();
+        if place < own.len() && own[place].is_same(&stored[0].values) {
+            return Ok(Some(SeenEdit::Same));
+        }
         let values = stored[0].values.share()?;
         let others = self.other_entries(NewValues { place, values })?;
         Ok(Some(SeenEdit::Others(others)))

@@ -161,9 +161,14 @@ other_entries a min f own =
 abbrev pub new_values : ℕ → Stored → NewValues
 new_values place t = record { place = place; values = t.values }
 
+-- what becomes of the entries if this one is stored at a place
+abbrev pub IsStoredEdit : Asked → ℕ → ℕ → Found → Stored → SeenEdit → Type 0
+IsStoredEdit a min place f t Same = slice_get f.values place ≡ Some t.values
+IsStoredEdit a min place f t (Others o) = o ≡ other_entries a min f (new_values place t)
+
 abbrev pub IsSeenEdit : Asked → ℕ → ℕ → Found → List Stored → SeenEdit → Type 0
 IsSeenEdit a min place f [] e = e ≡ Same
-IsSeenEdit a min place f (t ∷ []) e = e ≡ Others (other_entries a min f (new_values place t))
+IsSeenEdit a min place f (t ∷ []) e = IsStoredEdit a min place f t e
 IsSeenEdit a min place f (t ∷ u ∷ ts) e = ⊥
 
 -- ---- what an edit changes
