@@ -1,6 +1,6 @@
 -- Texts by their names: what is looked up after a change, and that each name stands once.
 use Rattle.std.proofs.Common.{◌≡◌, ◌∙◌, ap, sym, refl, subst, ◌+◌, ℕ, suc, Bool, true, false, not, cond, List, [], ◌∷◌, length, map, Option, Some, None, option_map, one-add, true≢false}
-use Rattle.std.specs.Prelude.{if◌then◌else◌, nat_lt, bytes_eq}
+use Rattle.std.specs.Prelude.{if◌then◌else◌, nat_lt, bytes_eq, unwrap_or}
 use Rattle.std.specs.List.{IsDistinct, AllByRecursion, position_or_len}
 use Rattle.std.proofs.Math.Dec.{leb-zero, leb-suc-suc}
 use Rattle.std.proofs.lemmas.Cmp.{nat_list_eq_equiv}
@@ -144,3 +144,20 @@ once_without name (f ∷ fs) once = go (bytes_eq f.name name) refl (once_without
     go true is later = later
     go false is later =
         (new_if_none f.name (without name fs) (text_of_without name fs f.name ∙ rw (flipped name f.name, is) (none_if_new f.name fs once.0)), later)
+
+-- Look-ups after a change
+
+-- The text that was put is that of its name, and every other name has the one that it had.
+pub text_of_with : (name text : List ℕ) (files : List File) (n : List ℕ) → text_of (with_text name text files) n ≡ (if bytes_eq name n then Some text else text_of files n)
+text_of_with name text files n =
+    ap (λ fs. text_of fs n) (put_is (record { name = name; text = text }) files) ∙ text_of_put (record { name = name; text = text }) files n
+
+other_text : (o p : Option (List ℕ)) (b : Bool) (text : List ℕ) → b ≡ false → o ≡ (if b then Some text else p) → o ≡ p
+other_text o p true text other is = absurd cc
+other_text o p false text other is = is
+
+-- Only that name has another text.
+pub others_stay : (name text : List ℕ) (files : List File) (n : List ℕ) → bytes_eq name n ≡ false → unwrap_or (text_of (with_text name text files) n) [] ≡ unwrap_or (text_of files n) []
+others_stay name text files n other =
+    ap (λ o. unwrap_or o [])
+    (other_text (text_of (with_text name text files) n) (text_of files n) (bytes_eq name n) text other (text_of_with name text files n))

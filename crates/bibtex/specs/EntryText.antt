@@ -1,5 +1,5 @@
 -- What an entry prints: the lines of the bibliography that the steps for its key end.
-use Rattle.std.specs.Prelude.{ℕ, Bool, false, if◌then◌else◌, List, [], ◌∷◌, ◌++◌, Option, Some, None}
+use Rattle.std.specs.Prelude.{ℕ, Bool, false, if◌then◌else◌, List, [], ◌∷◌, ◌++◌, Some, None}
 use Rattle.bt_text.specs.CaseFolding.{is_same_folded}
 use Rattle.bt_log.specs.Log.{lines_bytes}
 use Rattle.bt_run.specs.declared.course.Step.{Step}

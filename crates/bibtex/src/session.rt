@@ -10,7 +10,7 @@ use crate::state::{State, splice_of};
 use bt_bib::Splice;
 use bt_job::text_of;
 use bt_log::Message;
-use bt_run::{Kept, Report, Run, answers_after};
+use bt_run::{Change, Kept, Report, Run, answers_after};
 use bt_text::Bytes;
 use std::alloc::{AllocError, Global};
 use std::marker::Model;
@@ -29,12 +29,14 @@ impl Model for Session {
     ghost use Rattle.bibtex.specs.declared.state.State.{State};
     ghost use Rattle.bibtex.specs.Present.{Keeps};
     ghost use Rattle.bt_run.specs.Shown.{meaning_of};
+    ghost use Rattle.bt_run.specs.inner.Unseen.{AreTextsOf};
 
     ghost Value = { State };
 
     ghost view = { λ s. s.state };
 
-    ghost invariant = { λ s. Keeps s.state (meaning_of s.run.answers) s.run.kept.text s.run.kept.steps };
+    ghost invariant = { λ s. Keeps s.state (meaning_of s.run.answers) s.run.kept.text s.run.kept.steps
+        × AreTextsOf s.state.texts s.state.root s.run.kept };
 }
 
 impl Session {
@@ -46,6 +48,7 @@ impl Session {
     ghost use Rattle.bt_run.specs.Meaning.{trace};
     ghost use Rattle.bt_run.specs.Shown.{meaning_of};
     ghost use Rattle.bibtex.specs.EntryText.{entry_text};
+    ghost use Rattle.bt_run.specs.inner.Unseen.{AreOtherwise, AreTextsOf};
 
     /// A session without files, whose run begins at the root name followed by `.aux`. The errors are `BadName`, exactly if
     /// the root isn't a file name of at most 60 bytes, and `OutOfMemory`.
@@ -88,7 +91,8 @@ impl Session {
 
     /// Replaces the state and everything that it means, and returns the run's report.
     fn replace(&mut self, state: State, run: Run) -> Report
-        requires { Keeps state (meaning_of run.answers) run.kept.text run.kept.steps }
+        requires keeps { Keeps state (meaning_of run.answers) run.kept.text run.kept.steps }
+        requires texts { AreTextsOf state.texts state.root run.kept }
         ensures state { self.new ≡ state }
         ensures report { result ≡ run.report }
     {
@@ -116,6 +120,32 @@ impl Session {
             &mut self.run.kept,
         )?;
         Ok(self.replace(state, run))
+    }
+
+    /// Goes to a state in which one file alone has another text. If the style sees nothing of that, nothing is run.
+    fn go_over(&mut self, name: &[u8], state: State) -> Result<Report, Refusal>
+        requires once { EachOnce state.texts }
+        requires root { state.root ≡ self.old.root }
+        requires min { state.min ≡ self.old.min }
+        requires rest { AreOtherwise name.now self.old.texts state.texts }
+        ensures ok { IfOk result (λ _. self.new ≡ state) }
+        ensures report { IfOk result (λ report. report ≡ reported self.old self.new) }
+        ensures refused { IfErr result (λ refusal. refusal ≡ Refusal.OutOfMemory) }
+        ensures err { OnErr result (self.new ≡ self.old) }
+    {
+        let change = Change {
+            alloc: self.alloc,
+            name,
+            was: self.state.texts.as_slice(),
+            files: state.texts.as_slice(),
+            root: state.root.as_slice(),
+            min: state.min,
+        };
+        if let Some(report) = self.run.report_unseen(change)? {
+            drop(mem::replace(&mut self.state, state));
+            return Ok(report);
+        }
+        self.go_to(state)
     }
 
     /// The state after a splice that there is no reason to refuse. A database that it changes is read again where it can
@@ -157,6 +187,9 @@ impl Session {
             return Err(refusal);
         }
         let state = self.state_after(edit)?;
+        if let Edit::Splice(name, _, _, _) = edit {
+            return self.go_over(name, state);
+        }
         self.go_to(state)
     }
 

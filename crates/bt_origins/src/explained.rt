@@ -105,7 +105,7 @@ impl<'a> Explained<'a> {
 
 /// The place in the list of a step's entry.
 pub fn place_of(kept: &Kept, step: usize) -> Option<usize> {
-    *kept.places.as_slice().get(step)?
+    kept.marks.as_slice().get(step)?.place
 }
 
 /// The line of a command.

@@ -1,5 +1,6 @@
 -- What is known of the entries that READ found.
 use Rattle.std.specs.Prelude.{Bool, true, false, slice_get, slice_set, IsTrue}
+use Rattle.std.specs.Option.{ForSome}
 use Rattle.std.proofs.Common.{◌≡◌, refl, sym, ap, ◌∙◌, subst, ℕ, zero, suc, List, [], ◌∷◌, map, Option, Some, None}
 use Rattle.bt_style.specs.Program.{Program}
 use Rattle.bt_bib.specs.BibText.{pieces_of}
@@ -20,6 +21,7 @@ use Rattle.bt_run.specs.ReadCommand.{Job, found_for, read, with_blank_variables}
 use Rattle.bt_run.specs.inner.Alike.{AreFound, IsAlike, Stays, alike_after, found_at, found_fixed, is_known}
 use Rattle.bt_run.specs.inner.Asked.{question_for, with_databases}
 use Rattle.bt_run.specs.inner.Earlier.{fixed, fixed_at}
+use Rattle.bt_run.specs.inner.Edits.{IsAlikeAfter, Makes}
 use Rattle.bt_run.specs.inner.Found.{AreFoundBy, IsKept}
 use Rattle.bt_run.proofs.FindingLemmas.{put_texts, resolved_is}
 
@@ -51,6 +53,17 @@ put_alike was is texts number text items made alike read are_items edit known pu
     (edit.spared n (stays_spared made.seen n (subst (λ (a : Alike). Stays a n) known stays))
     ∙ ap (λ (q : Question). slice_get (resolved_for q).entries n) same)
 
+pub edited_alike : (kept : KeptResolution) (now : Question) (alike : Alike) → IsAlikeAfter kept.edit alike → ForSome kept.edit (λ e. ForSome e.made (λ made. now ≡ with_databases (map pieces_of (slice_set kept.texts e.number e.text)) kept.resolution)) → IsAlike alike (resolved_for kept.resolution) (resolved_for now)
+edited_alike kept now alike after put =
+    let e = after.edit in
+    put_alike kept.resolution now kept.texts e.number e.text e.items after.made alike kept.read e.read (kept.edited e after.is_edit after.made after.is_made) after.is
+    (put e after.is_edit after.made after.is_made)
+
+pub edited_texts : (kept : KeptResolution) (now : Question) (alike : Alike) (texts : List (List ℕ)) → IsAlikeAfter kept.edit alike → ForSome kept.edit (λ e. ForSome e.made (λ made. now ≡ with_databases (map pieces_of (slice_set kept.texts e.number e.text)) kept.resolution)) → ForSome kept.edit (Makes kept.texts texts) → now ≡ with_databases (map pieces_of texts) kept.resolution
+edited_texts kept now alike texts after put makes =
+    put after.edit after.is_edit after.made after.is_made
+    ∙ ap (λ (ts : List (List ℕ)). with_databases (map pieces_of ts) kept.resolution) (sym (makes after.edit after.is_edit))
+
 -- what READ leaves is what it found
 
 blank_fixed : (p : Program) (es : List FoundEntry) (n : ℕ) → fixed_at (map (with_blank_variables p) es) n ≡ found_at es n
@@ -64,12 +77,16 @@ read_found job number r back is = λ n.
     ∙ blank_fixed job.program (found_for job number).entries n
     ∙ ap (λ (all : Resolved). found_at all.entries n) (sym (resolved_is job number))
 
+abbrev kept_or : KeptResolution → Option KeptResolution → KeptResolution
+kept_or k None = k
+kept_or k (Some r) = r
+
 pub found_read : (kept : Option KeptResolution) (job : Job) (number : ℕ) (r back : Course) → IsKept kept (question_for job number) → back ≡ read job number r → AreFoundBy true kept back.entries
 found_read None job number r back about is = absurd about
 found_read (Some kept) job number r back about is = record {
   some = λ go. refl;
   found = λ go k e.
-      let same : kept ≡ k = cc in
+      let same : kept ≡ k = ap (kept_or kept) e in
       subst (λ (q : Question). AreFound (resolved_for q) back.entries) (sym about ∙ ap (λ (r : KeptResolution). r.resolution) same) (read_found job number r back is);
 }
 

@@ -1,7 +1,7 @@
 -- A whole run, from its beginning to its counts.
 use Rattle.std.specs.Prelude.{IsTrue, unwrap_or, bytes_eq, Bool, true, false, if◌then◌else◌, ◌-◌, Result}
 use Rattle.std.specs.Option.{ForSome}
-use Rattle.std.proofs.Common.{All, ◌<◌, ◌≡◌, refl, sym, ap, ◌∙◌, ℕ, List, [], ◌∷◌, ◌++◌, Option, Some, None, Ok, Err, ◌≤◌, length, map, subst, arith}
+use Rattle.std.proofs.Common.{All, ◌<◌, ◌≡◌, refl, sym, ap, ◌∙◌, ℕ, List, [], ◌∷◌, ◌++◌, Option, Some, None, Ok, Err, ◌≤◌, length, subst, arith}
 use Rattle.std.proofs.lemmas.Slice.Eq.{bytes_eq-Decides}
 use Rattle.bt_style.specs.declared.fault.StyleFault.{StyleFault}
 use Rattle.bt_style.specs.declared.style.Style.{Style}
@@ -28,15 +28,15 @@ use Rattle.bt_run.proofs.CountLemmas.{counted_alike}
 use Rattle.bt_run.specs.Work.{total_cost, work_under, IsStep}
 use Rattle.bt_run.specs.inner.Found.{AreFoundBy}
 use Rattle.bt_run.specs.inner.Calls.{AreCalls}
-use Rattle.bt_run.specs.inner.Tags.{step_tag}
-use Rattle.bt_run.specs.inner.Work.{AreKept, IsBegun, IsConsistent}
+use Rattle.bt_run.specs.inner.Work.{AreKept, IsBegun, IsConsistent, IsWork}
 use Rattle.bt_run.specs.Steps.{StepsAre, styled_work, work_after}
 use Rattle.bt_run.specs.inner.Steps.{run_shown, calls_in, steps_under, IsTaken}
 use Rattle.bt_run.specs.Kept.{named_text, style_text, run_work, report_after}
 use Rattle.bt_run.proofs.WorkLemmas.{work_none, work_first}
-use Rattle.bt_run.proofs.EarlierLemmas.{nothing_found, nothing_placed, same_none}
+use Rattle.bt_run.proofs.EarlierLemmas.{nothing_found, same_none}
 use Rattle.bt_run.proofs.TurnLemmas.{none_in_turn, none_left, calls_begun}
-use Rattle.bt_run.proofs.LinkLemmas.{none_linked, none_last}
+use Rattle.bt_run.proofs.LinkLemmas.{none_last}
+use Rattle.bt_run.proofs.MarkLemmas.{none_marked}
 use Rattle.bt_run.specs.ReadCommand.{Job}
 use Rattle.bt_run.specs.Commands.{commands_from}
 use Rattle.bt_run.specs.Counts.{calls_at, counts_told}
@@ -49,35 +49,30 @@ begun_consistent p earlier w s calls empty h are before =
     let work : work_under p earlier.steps s.steps ≡ [] = ap (work_under p earlier.steps) none ∙ work_none p earlier.steps in
     let count : length s.steps ≡ 0 = ap length none in
     record {
-      ran = h.3 ∙ ap length (sym work);
-      ticks = h.4 ∙ ap total_cost (sym work);
-      fewer = omega (arith, h.3);
-      bounded = omega (arith, h.4);
-      steps = λ k d lt. absurd (omega (arith, lt, count));
-      known = rw h.5 (λ k d lt. absurd (omega (arith, lt)));
-      indexed = rw h.6 (λ x e. absurd cc);
-      counted = ap length h.1 ∙ sym count;
-      placed = nothing_placed w.entries s.steps s.places none;
+      work = record {
+        ran = h.3 ∙ ap length (sym work);
+        ticks = h.4 ∙ ap total_cost (sym work);
+        fewer = omega (arith, h.3);
+        bounded = omega (arith, h.4);
+        true_steps = λ k d lt. absurd (omega (arith, lt, count));
+        known = rw h.5 (λ k d lt. absurd (omega (arith, lt)));
+        indexed = rw h.6 (λ x e. absurd cc);
+      };
+      marked = none_marked w.entries s.steps s.marks none h.1;
       same = same_none earlier.entries w.entries s.same h.2;
-      tagged = h.7 ∙ sym (ap (map step_tag) none);
       in_turn = none_in_turn s.steps none;
       left = none_left s.steps w none;
-      given = λ go. (let on : IsTrue false = subst (λ (b : Bool). IsTrue b) h.8 go in absurd cc);
-      called = calls_begun earlier.steps s.reuse.next s.steps calls h.9 none are;
-      found = rw h.11 (nothing_found s.resolution w.entries);
+      given = λ go. (let on : IsTrue false = subst (λ (b : Bool). IsTrue b) h.7 go in absurd cc);
+      called = calls_begun earlier.steps s.reuse.next s.steps calls h.8 none are;
+      found = rw h.10 (nothing_found s.resolution w.entries);
       found_before = before;
-      spread = ap length h.12 ∙ sym count;
-      linked = none_linked s.steps s.previous h.12;
-      lasts = none_last w s.steps s.lasts h.13;
-      origins = none_last w earlier.steps s.origins h.14;
+      lasts = none_last w s.steps s.lasts h.11;
+      origins = none_last w earlier.steps s.origins h.12;
     }
 
 -- a run's end
-pub with_calls : (p : Program) (earlier : Kept) (w : World) (s : KeptSteps) (calls : Option (List ℕ)) → IsConsistent p earlier w s → IsConsistent p earlier w (record s { all_calls = calls })
-with_calls p earlier w s calls h = record { ran = h.ran; ticks = h.ticks; fewer = h.fewer; bounded = h.bounded; steps = h.steps; known = h.known; indexed = h.indexed; counted = h.counted; placed = h.placed; same = h.same; tagged = h.tagged; in_turn = h.in_turn; left = h.left; given = h.given; called = h.called; found = h.found; found_before = h.found_before; spread = h.spread; linked = h.linked; lasts = h.lasts; origins = h.origins }
-
-pub kept_with : (p : Program) (earlier : Kept) (w : World) (s : KeptSteps) (calls : List ℕ) → IsConsistent p earlier w s → AreCalls s.steps calls → AreKept w.entries (record s { all_calls = Some calls })
-kept_with p earlier w s calls h are = record { placed = h.placed; tagged = h.tagged; in_turn = h.in_turn; called = λ c e. (let same : calls ≡ c = cc in subst (AreCalls s.steps) same are); found = h.found; linked = h.linked }
+pub kept_with : (p : Program) (earlier : Kept) (w : World) (s : KeptSteps) (calls : List ℕ) → IsConsistent p earlier w s → AreCalls s.steps calls → AreKept w.entries (record s { calls = Some calls })
+kept_with p earlier w s calls h are = record { marked = h.marked; in_turn = h.in_turn; called = λ c e. (let same : calls ≡ c = cc in subst (AreCalls s.steps) same are); found = h.found }
 
 -- What was carried out
 
@@ -107,12 +102,10 @@ nothing_taken own earlier text s h =
 
 pub begun_kept : (entries : List Entry) (s : KeptSteps) → IsBegun s → AreKept entries s
 begun_kept entries s h = record {
-  placed = nothing_placed entries s.steps s.places h.0;
-  tagged = h.7 ∙ sym (ap (map step_tag) h.0);
+  marked = none_marked entries s.steps s.marks h.0 h.1;
   in_turn = none_in_turn s.steps h.0;
-  called = rw h.10 (λ c e. absurd cc);
-  found = rw h.11 (nothing_found s.resolution entries);
-  linked = none_linked s.steps s.previous h.12;
+  called = rw h.9 (λ c e. absurd cc);
+  found = rw h.10 (nothing_found s.resolution entries);
 }
 
 work_if : (p : Program) (b : Bool) (earlier steps : List Step) → work_under p (if b then earlier else []) steps ≡ (if b then work_under p earlier steps else steps)
@@ -132,14 +125,14 @@ true_steps p text steps read h = λ t q named again.
     let program : p ≡ q = cc in
     subst (λ (o : Program). All (IsStep o) steps) program h
 
-pub run_taken : (p : Program) (own : Option (List ℕ)) (before : List Step) (text : List ℕ) (earlier : Kept) (w : World) (s : KeptSteps) → style_of text ≡ Ok p → earlier.steps ≡ steps_under own before text → IsConsistent p earlier w s → IsTaken own before (Some text) s.steps s.reuse
-run_taken p own before text earlier w s read is h =
-    let work = ap (λ es. work_under p es s.steps) is ∙ work_read p own before text s.steps read in
+pub run_taken : (p : Program) (own : Option (List ℕ)) (before : List Step) (text : List ℕ) (earlier steps : List Step) (reuse : Reuse) → style_of text ≡ Ok p → earlier ≡ steps_under own before text → IsWork p earlier steps reuse → IsTaken own before (Some text) steps reuse
+run_taken p own before text earlier steps reuse read is h =
+    let work = ap (λ es. work_under p es steps) is ∙ work_read p own before text steps read in
     record {
       ran = h.ran ∙ ap length work;
       ticks = h.ticks ∙ ap total_cost work;
       fewer = h.fewer;
-      true_steps = true_steps p text s.steps read h.steps;
+      true_steps = true_steps p text steps read h.true_steps;
     }
 
 all_under : {A : Type 0} (P : A → Type 0) (b : Bool) (xs : List A) → (b ≡ true → All P xs) → All P (if b then xs else [])

@@ -1,56 +1,47 @@
 -- READ and SORT keep what a run keeps to.
-use Rattle.std.proofs.Common.{◌≡◌, ap, subst, sym, ℕ, ◌<◌, Bool, true, false, List, Option, Some, None, length, map}
-use Rattle.std.proofs.lemmas.List.{length-map}
+use Rattle.std.proofs.Common.{◌≡◌, ap, subst, sym, ℕ, Bool, true, false, List, Option, None, length, map}
 use Rattle.bt_style.specs.Program.{Program}
 use Rattle.bt_actions.specs.declared.entry.Entry.{Entry}
 use Rattle.bt_actions.specs.declared.entry.Variables.{Variables}
 use Rattle.bt_log.specs.declared.message.Message.{Message}
 use Rattle.bt_run.specs.declared.course.Course.{Course}
-use Rattle.bt_run.specs.declared.course.Step.{Step}
 use Rattle.bt_run.specs.declared.kept.Kept.{Kept}
 use Rattle.bt_run.specs.declared.kept_steps.KeptSteps.{KeptSteps}
+use Rattle.bt_run.specs.declared.mark.Mark.{Mark}
 use Rattle.bt_run.specs.inner.Course.{IsOrdered}
 use Rattle.bt_run.specs.inner.Earlier.{AreSame}
+use Rattle.bt_run.specs.inner.Marks.{bare_mark}
 use Rattle.bt_run.specs.inner.Work.{IsConsistent}
 use Rattle.bt_run.specs.Course.{course_world}
 use Rattle.bt_run.specs.Meaning.{run_begun}
 use Rattle.bt_run.specs.SortCommand.{key_at}
-use Rattle.bt_run.specs.ReadCommand.{Job, list_order, read}
+use Rattle.bt_run.specs.ReadCommand.{Job, read}
 use Rattle.bt_run.specs.inner.Cases.{sorted_run}
 use Rattle.bt_run.specs.declared.kept_resolution.KeptResolution.{KeptResolution}
 use Rattle.bt_run.specs.inner.Asked.{question_for}
 use Rattle.bt_run.specs.inner.Found.{IsKept}
 use Rattle.bt_run.proofs.AlikeLemmas.{found_read}
-use Rattle.bt_run.proofs.EarlierLemmas.{none_placed, nothing_found}
+use Rattle.bt_run.proofs.EarlierLemmas.{nothing_found}
 use Rattle.bt_run.proofs.LinkLemmas.{nowhere_last}
+use Rattle.bt_run.proofs.MarkLemmas.{bare_marked}
 use Rattle.bt_run.proofs.OrderLemmas.{arranged_range}
 use Rattle.bt_run.proofs.SortingLemmas.{arranged_sorted}
 use Rattle.bt_run.proofs.TurnLemmas.{left_alike, given_alike}
 
-pub read_consistent : (p : Program) (earlier : Kept) (job : Job) (number : ℕ) (r back : Course) (s : KeptSteps) (resolution : Option KeptResolution) (places : List (Option ℕ)) (lasts origins : List (Option ℕ)) (same : List Bool) → back ≡ read job number r → places ≡ map (λ (s : Step). None) s.steps → lasts ≡ map (λ (e : Entry). None) back.entries → origins ≡ map (λ (e : Entry). None) back.entries → AreSame earlier.entries back.entries same → IsKept resolution (question_for job number) → IsConsistent p earlier (course_world r) s → IsConsistent p earlier (course_world back) (record s { resolution = resolution; is_own = true; is_earlier = false; places = places; lasts = lasts; origins = origins; same = same })
-read_consistent p earlier job number r back s resolution places lasts origins same is are_none no_lasts no_origins are_same about h =
+pub read_consistent : (p : Program) (earlier : Kept) (job : Job) (number : ℕ) (r back : Course) (s : KeptSteps) (resolution : Option KeptResolution) (marks : List Mark) (lasts origins : List (Option ℕ)) (same : List Bool) → back ≡ read job number r → marks ≡ map bare_mark s.steps → lasts ≡ map (λ (e : Entry). None) back.entries → origins ≡ map (λ (e : Entry). None) back.entries → AreSame earlier.entries back.entries same → IsKept resolution (question_for job number) → IsConsistent p earlier (course_world r) s → IsConsistent p earlier (course_world back) (record s { resolution = resolution; is_own = true; is_earlier = false; marks = marks; lasts = lasts; origins = origins; same = same })
+read_consistent p earlier job number r back s resolution marks lasts origins same is are_bare no_lasts no_origins are_same about h =
     let globals = ap (λ (c : Course). c.globals) is in
     let held = ap (λ (c : Course). c.held) is in
-    rw are_none (record {
-      ran = h.ran;
-      ticks = h.ticks;
-      fewer = h.fewer;
-      bounded = h.bounded;
-      steps = h.steps;
-      known = h.known;
-      indexed = h.indexed;
-      counted = length-map s.steps (λ (s : Step). None);
-      placed = none_placed back.entries s.steps;
+    rw are_bare (record {
+      work = h.work;
+      marked = bare_marked back.entries s.steps;
       same = are_same;
-      tagged = h.tagged;
       in_turn = h.in_turn;
       left = left_alike s.steps (course_world r) (course_world back) globals held h.left;
       given = λ go. given_alike earlier.steps s.reuse.next (course_world r) (course_world back) globals held (h.given go);
       called = h.called;
       found = found_read resolution job number r back about is;
       found_before = nothing_found resolution earlier.entries;
-      spread = h.spread;
-      linked = h.linked;
       lasts = nowhere_last (course_world back) s.steps lasts back.entries no_lasts;
       origins = nowhere_last (course_world back) earlier.steps origins back.entries no_origins;
     })

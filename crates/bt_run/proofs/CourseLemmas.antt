@@ -12,13 +12,15 @@ use Rattle.bt_actions.specs.declared.entry.Variables.{Variables}
 use Rattle.bt_actions.specs.World.{World, no_entry}
 use Rattle.bt_machine.specs.declared.input.Input.{Input}
 use Rattle.bt_machine.specs.declared.outcome.Outcome.{Outcome}
-use Rattle.bt_machine.specs.Step.{Finish, step, step_in, first_variables, outcome_of, Own, own}
+use Rattle.bt_machine.specs.Step.{Finish, step, step_in, first_variables, outcome_of, own}
 use Rattle.bt_machine.specs.OwnEntry.{IsPlace, DependsOnInput, alone, cut, finish_back}
 use Rattle.bt_run.specs.declared.course.Course.{Course}
 use Rattle.bt_run.specs.declared.course.Step.{Step}
 use Rattle.bt_run.specs.declared.course.CommandPlace.{CommandPlace}
 use Rattle.bt_run.specs.declared.kept.Kept.{Kept}
+use Rattle.bt_run.specs.declared.mark.Mark.{Mark}
 use Rattle.bt_run.specs.declared.kept_steps.KeptSteps.{KeptSteps}
+use Rattle.bt_run.specs.declared.reuse.Reuse.{Reuse}
 use Rattle.bt_run.specs.Course.{Recorded, course_world, input_at, step_kept, left_by, stepped}
 use Rattle.bt_run.specs.inner.Cases.{all_told}
 use Rattle.bt_run.specs.inner.Course.{recorded, IsArranged, IsOrdered, lent, with_variables, variables_back, put_back}
@@ -26,14 +28,15 @@ use Rattle.bt_run.specs.Work.{total_cost, work_under, IsStep, own_left}
 use Rattle.bt_run.specs.inner.Found.{AreFoundBy}
 use Rattle.bt_run.specs.inner.Calls.{AreCallsFrom}
 use Rattle.bt_run.specs.inner.Earlier.{AreSame}
-use Rattle.bt_run.specs.inner.Tags.{step_tag}
+use Rattle.bt_run.specs.inner.Marks.{step_tag}
 use Rattle.bt_run.specs.inner.Turn.{IsGiven, IsSharedFrom}
 use Rattle.bt_run.specs.inner.Links.{at_entry, with_last}
-use Rattle.bt_run.specs.inner.Work.{IsNext, IsConsistent}
+use Rattle.bt_run.specs.inner.Work.{IsNext, IsConsistent, IsWork}
 use Rattle.bt_run.proofs.WorkLemmas.{work_append, work_fewer}
-use Rattle.bt_run.proofs.EarlierLemmas.{found_back, same_back, placed_more}
-use Rattle.bt_run.proofs.TurnLemmas.{in_turn_more, left_more, given_next, tagged_more}
-use Rattle.bt_run.proofs.LinkLemmas.{linked_more, lasts_more, origins_more}
+use Rattle.bt_run.proofs.EarlierLemmas.{found_back, same_back}
+use Rattle.bt_run.proofs.TurnLemmas.{in_turn_more, left_more, given_next}
+use Rattle.bt_run.proofs.LinkLemmas.{lasts_more, origins_more}
+use Rattle.bt_run.proofs.MarkLemmas.{marked_more}
 
 -- what a step leaves in the world of its entry alone, or of none
 abbrev alone_left : Program → Target → Option ℕ → Course → Finish
@@ -146,58 +149,58 @@ all_behind P xs y h g = All-append P xs (y ∷ []) h (all_one P y g)
 pub record Links : Type 0 where
   pub link : Option ℕ
   pub origin : Option ℕ
-  pub previous : List (Option ℕ)
   pub lasts : List (Option ℕ)
   pub origins : List (Option ℕ)
 
 pub record AreMore (x : Option ℕ) (before next : KeptSteps) (shared : Bool) (l : Links) : Type 0 where
   pub link : IfSome l.link (at_entry next.lasts x)
   pub origin : IfSome l.origin (λ k. IsTrue shared × (k ≡ before.reuse.next))
-  pub previous : l.previous ≡ next.previous ++ l.link ∷ []
   pub lasts : l.lasts ≡ with_last x (Some (length next.steps)) next.lasts
   pub origins : l.origins ≡ with_last x l.origin next.origins
 
--- a step keeps what a run keeps to
-pub consistent_behind : (p : Program) (earlier : Kept) (site : CommandPlace) (t : Target) (x : Option ℕ) (r back : Course) (s : Step) (tag : ℕ) (shared : Bool) (before next : KeptSteps) (steps : List Step) (tags : List ℕ) (places : List (Option ℕ)) (calls : Option (List ℕ)) (links : Links) → IsConsistent p earlier (course_world r) before → IsPlace x (course_world r) → AreMore x before next shared links → s.input ≡ input_at t x (course_world r) → back ≡ put_back site x s.outcome r → next ≡ record before { reuse = next.reuse } → steps ≡ next.steps ++ s ∷ [] → tags ≡ next.tags ++ tag ∷ [] → places ≡ next.places ++ x ∷ [] → tag ≡ step_tag s → (IsTrue shared → IsSharedFrom earlier.steps s before.reuse.next next.reuse.next) → ((ss : List Step) → ForSome next.calls (AreCallsFrom earlier.steps before.reuse.next ss) → ForSome calls (AreCallsFrom earlier.steps next.reuse.next (ss ++ s ∷ []))) → IsNext p earlier.steps s before.reuse next.reuse → IsConsistent p earlier (course_world back) (record next { steps = steps; tags = tags; places = places; in_step = shared; calls = calls; previous = links.previous; lasts = links.lasts; origins = links.origins })
-consistent_behind p earlier site t x r back s tag shared before next steps tags places calls links h placed joined is_input is_back is_rest are_steps are_tags are_places is_tag in_turn called is_next =
+-- a step adds its part to the work
+work_behind : (p : Program) (earlier steps : List Step) (s : Step) (before after : Reuse) → IsWork p earlier steps before → IsNext p earlier s before after → IsWork p earlier (steps ++ s ∷ []) after
+work_behind p earlier steps s before after h is_next =
     let cost : Step → ℕ = λ (u : Step). u.cost in
-    let so_far = work_under p earlier.steps before.steps in
-    let more = work_under p earlier.steps (s ∷ []) in
-    let works = work_append p earlier.steps before.steps (s ∷ []) in
-    let own = ap (λ (i : Input). i.entry) is_input in
+    let so_far = work_under p earlier steps in
+    let more = work_under p earlier (s ∷ []) in
+    let works = work_append p earlier steps (s ∷ []) in
+    let longer = length-append steps (s ∷ []) in
+    record {
+      ran = is_next.counted.ran ∙ ap (λ n. n + length more) h.ran ∙ sym (ap length works ∙ length-append so_far more);
+      ticks = is_next.counted.ticks ∙ ap (λ n. n + total_cost more) h.ticks ∙ sym (ap total_cost works ∙ sum_by-append cost so_far more);
+      fewer = omega (arith, longer, h.fewer, is_next.counted.ran, work_fewer p earlier (s ∷ []));
+      bounded = omega (arith, longer, h.bounded, is_next.within);
+      true_steps = all_behind (IsStep p) steps s h.true_steps is_next.step;
+      known = is_next.known;
+      indexed = is_next.indexed;
+    }
+
+-- a step keeps what a run keeps to
+pub consistent_behind : (p : Program) (earlier : Kept) (site : CommandPlace) (t : Target) (x : Option ℕ) (r back : Course) (s : Step) (tag : ℕ) (shared : Bool) (before next : KeptSteps) (steps : List Step) (marks : List Mark) (calls : Option (List ℕ)) (links : Links) → IsConsistent p earlier (course_world r) before → IsPlace x (course_world r) → AreMore x before next shared links → s.input ≡ input_at t x (course_world r) → back ≡ put_back site x s.outcome r → next ≡ record before { reuse = next.reuse } → steps ≡ next.steps ++ s ∷ [] → marks ≡ next.marks ++ record { place = x; tag = tag; previous = links.link } ∷ [] → tag ≡ step_tag s → (IsTrue shared → IsSharedFrom earlier.steps s before.reuse.next next.reuse.next) → ((ss : List Step) → ForSome next.calls (AreCallsFrom earlier.steps before.reuse.next ss) → ForSome calls (AreCallsFrom earlier.steps next.reuse.next (ss ++ s ∷ []))) → IsNext p earlier.steps s before.reuse next.reuse → IsConsistent p earlier (course_world back) (record next { steps = steps; marks = marks; in_step = shared; calls = calls; lasts = links.lasts; origins = links.origins })
+consistent_behind p earlier site t x r back s tag shared before next steps marks calls links h placed joined is_input is_back is_rest are_steps are_marks is_tag in_turn called is_next =
     let kept_steps : steps ≡ before.steps ++ s ∷ [] = are_steps ∙ ap (λ (k : KeptSteps). k.steps ++ s ∷ []) is_rest in
-    let kept_tags : tags ≡ before.tags ++ tag ∷ [] = are_tags ∙ ap (λ (k : KeptSteps). k.tags ++ tag ∷ []) is_rest in
-    let kept_places : places ≡ before.places ++ x ∷ [] = are_places ∙ ap (λ (k : KeptSteps). k.places ++ x ∷ []) is_rest in
+    let mark : Mark = record { place = x; tag = tag; previous = links.link } in
+    let kept_marks : marks ≡ before.marks ++ mark ∷ [] = are_marks ∙ ap (λ (k : KeptSteps). k.marks ++ mark ∷ []) is_rest in
     let kept_same = ap (λ (k : KeptSteps). k.same) is_rest in
     let kept_calls = ap (λ (k : KeptSteps). k.calls) is_rest in
     let given : IsGiven (course_world r) s.input = record { globals = ap (λ (i : Input). i.globals) is_input; held = ap (λ (i : Input). i.held) is_input } in
     let calls_now = called before.steps (subst (λ (o : Option (List ℕ)). ForSome o (AreCallsFrom earlier.steps before.reuse.next before.steps)) (sym kept_calls) h.called) in
     let w = course_world r in
     let v = course_world (put_back site x s.outcome r) in
-    let kept_previous : links.previous ≡ before.previous ++ links.link ∷ [] = joined.previous ∙ ap (λ (k : KeptSteps). k.previous ++ links.link ∷ []) is_rest in
     let kept_lasts : links.lasts ≡ with_last x (Some (length before.steps)) before.lasts = joined.lasts ∙ ap (λ (k : KeptSteps). with_last x (Some (length k.steps)) k.lasts) is_rest in
     let kept_origins : links.origins ≡ with_last x links.origin before.origins = joined.origins ∙ ap (λ (k : KeptSteps). with_last x links.origin k.origins) is_rest in
     let known = subst (λ (k : KeptSteps). IfSome links.link (at_entry k.lasts x)) is_rest joined.link in
-    rw (kept_places, kept_tags, kept_steps, kept_previous, kept_lasts, kept_origins, is_back) (record {
-      ran = is_next.counted.ran ∙ ap (λ n. n + length more) h.ran ∙ sym (ap length works ∙ length-append so_far more);
-      ticks = is_next.counted.ticks ∙ ap (λ n. n + total_cost more) h.ticks ∙ sym (ap total_cost works ∙ sum_by-append cost so_far more);
-      fewer = omega (arith, length-append before.steps (s ∷ []), h.fewer, is_next.counted.ran, work_fewer p earlier.steps (s ∷ []));
-      bounded = omega (arith, length-append before.steps (s ∷ []), h.bounded, is_next.within);
-      steps = all_behind (IsStep p) before.steps s h.steps is_next.step;
-      known = is_next.known;
-      indexed = is_next.indexed;
-      counted = omega (arith, length-append before.steps (s ∷ []), length-append before.places (x ∷ []), h.counted);
-      placed = placed_more r.entries before.steps before.places s x s.outcome.variables h.counted h.placed own;
+    rw (kept_marks, kept_steps, kept_lasts, kept_origins, is_back) (record {
+      work = work_behind p earlier.steps before.steps s before.reuse next.reuse h.work is_next;
+      marked = marked_more w before.steps before.marks before.lasts s t x s.outcome.variables tag links.link h.marked h.lasts is_input is_tag known;
       same = subst (AreSame earlier.entries (variables_back x s.outcome.variables r.entries)) (sym kept_same) (same_back earlier.entries r.entries before.same x s.outcome.variables h.same);
-      tagged = tagged_more before.steps before.tags s tag h.tagged is_tag;
       in_turn = in_turn_more before.steps (course_world r) s h.in_turn h.left given;
       left = left_more before.steps (course_world (put_back site x s.outcome r)) s (record { globals = refl; held = refl });
       given = λ go. given_next earlier.steps (course_world (put_back site x s.outcome r)) s before.reuse.next next.reuse.next earlier.in_turn (in_turn go) (record { globals = refl; held = refl });
       called = calls_now;
       found = subst (λ (k : KeptSteps). AreFoundBy k.is_own k.resolution (variables_back x s.outcome.variables r.entries)) (sym is_rest) (found_back before.is_own before.resolution r.entries x s.outcome.variables h.found);
       found_before = subst (λ (k : KeptSteps). AreFoundBy k.is_earlier k.resolution earlier.entries) (sym is_rest) h.found_before;
-      spread = omega (arith, length-append before.steps (s ∷ []), length-append before.previous (links.link ∷ []), h.spread);
-      linked = linked_more w before.steps before.previous before.lasts s t x links.link h.spread h.linked h.lasts is_input known;
       lasts = lasts_more w v before.steps s t x before.lasts is_input placed refl refl h.lasts;
       origins = origins_more w v earlier.steps s t x before.origins links.origin shared before.reuse.next next.reuse.next is_input placed refl refl joined.origin in_turn h.origins;
     })

@@ -1,16 +1,14 @@
 -- What is known of entries without comparing them stays so from step to step.
-use Rattle.std.specs.Prelude.{slice_get, slice_index_or, slice_set, true, false, IsTrue, ◌⊎◌}
-use Rattle.std.specs.Option.{option_map}
-use Rattle.std.proofs.Common.{◌≡◌, refl, sym, ap, ◌∙◌, inl, inr, ℕ, zero, suc, Bool, List, [], ◌∷◌, ◌++◌, length, map, Option, Some, None, arith}
-use Rattle.std.proofs.lemmas.Option.{slice_get_within, slice_get-map}
+use Rattle.std.specs.Prelude.{slice_get, slice_index_or, slice_set, true, false, ◌⊎◌}
+use Rattle.std.proofs.Common.{◌≡◌, refl, sym, ap, ◌∙◌, inl, inr, ℕ, zero, suc, Bool, List, [], ◌∷◌, ◌++◌, length, Option, Some, None, arith}
+use Rattle.std.proofs.lemmas.Option.{slice_get_within}
 use Rattle.bt_actions.specs.declared.entry.Entry.{Entry}
 use Rattle.bt_actions.specs.declared.entry.Variables.{Variables}
-use Rattle.bt_actions.specs.World.{no_entry, entry_in}
-use Rattle.bt_run.specs.declared.course.Step.{Step}
+use Rattle.bt_actions.specs.World.{no_entry}
 use Rattle.bt_run.specs.declared.kept_resolution.KeptResolution.{KeptResolution}
 use Rattle.bt_run.specs.inner.Found.{AreFoundBy}
 use Rattle.bt_run.specs.inner.Course.{with_variables, variables_back}
-use Rattle.bt_run.specs.inner.Earlier.{fixed, fixed_at, ArePlaced, AreSame}
+use Rattle.bt_run.specs.inner.Earlier.{fixed, fixed_at, AreSame}
 
 -- variables are all that a step puts back into an entry
 
@@ -25,7 +23,7 @@ fixed_set (d ∷ ds) zero (suc n) e h = refl
 fixed_set (d ∷ ds) (suc m) zero e h = refl
 fixed_set (d ∷ ds) (suc m) (suc n) e h = fixed_set ds m n e h
 
-fixed_back : (x : Option ℕ) (v : Option Variables) (entries : List Entry) (n : ℕ) → fixed_at (variables_back x v entries) n ≡ fixed_at entries n
+pub fixed_back : (x : Option ℕ) (v : Option Variables) (entries : List Entry) (n : ℕ) → fixed_at (variables_back x v entries) n ≡ fixed_at entries n
 fixed_back None v entries n = refl
 fixed_back (Some m) v entries n = fixed_set entries m n (with_variables v (slice_index_or entries m no_entry)) (fixed_with v (slice_index_or entries m no_entry))
 
@@ -51,35 +49,7 @@ last_or [] x y (suc k) h = absurd cc
 last_or (d ∷ ds) x y zero h = inl h
 last_or (d ∷ ds) x y (suc k) h = more_here x d ds y k (last_or ds x y k h)
 
--- a step more, with its place
-
-pub entry_placed : (entry : Option Entry) (entries : List Entry) (x : Option ℕ) → entry ≡ entry_in entries x → (n : ℕ) → x ≡ Some n → option_map fixed entry ≡ Some (fixed_at entries n)
-entry_placed entry entries x h n e = ap (option_map fixed) (h ∙ ap (entry_in entries) e)
-
-placed_or : (entries news : List Entry) (steps : List Step) (places : List (Option ℕ)) (s t : Step) (x : Option ℕ) (k n : ℕ) → fixed_at news n ≡ fixed_at entries n → length places ≡ length steps → ArePlaced entries steps places → (x ≡ Some n → option_map fixed s.input.entry ≡ Some (fixed_at entries n)) → (slice_get places k ≡ Some (Some n)) ⊎ ((k ≡ length places) × (x ≡ Some n)) → (slice_get steps k ≡ Some t) ⊎ ((k ≡ length steps) × (s ≡ t)) → option_map fixed t.input.entry ≡ Some (fixed_at news n)
-placed_or entries news steps places s t x k n kept counted h own (inl at) (inl here) = h k n t at here ∙ ap Some (sym kept)
-placed_or entries news steps places s t x k n kept counted h own (inl at) (inr last) = absurd (omega (arith, slice_get_within places k (Some n) at, counted, last.0))
-placed_or entries news steps places s t x k n kept counted h own (inr at) (inl here) = absurd (omega (arith, slice_get_within steps k t here, counted, at.0))
-placed_or entries news steps places s t x k n kept counted h own (inr at) (inr last) =
-    ap (λ (u : Step). option_map fixed u.input.entry) (sym last.1) ∙ own at.1 ∙ ap Some (sym kept)
-
-pub placed_more : (entries : List Entry) (steps : List Step) (places : List (Option ℕ)) (s : Step) (x : Option ℕ) (v : Option Variables) → length places ≡ length steps → ArePlaced entries steps places → s.input.entry ≡ entry_in entries x → ArePlaced (variables_back x v entries) (steps ++ s ∷ []) (places ++ x ∷ [])
-placed_more entries steps places s x v counted h is =
-    λ k n t at here. placed_or entries (variables_back x v entries) steps places s t x k n (fixed_back x v entries n) counted h (entry_placed s.input.entry entries x is n) (last_or places x (Some n) k at) (last_or steps s t k here)
-
--- steps that are for no entry
-pub none_placed : (entries : List Entry) (steps : List Step) → ArePlaced entries steps (map (λ step. None) steps)
-none_placed entries steps = λ k n s at here.
-    let none : Step → Option ℕ = λ step. None in
-    let empty : Some (none s) ≡ Some (Some n) = sym (ap (option_map none) here) ∙ sym (slice_get-map none steps k) ∙ at in
-    absurd cc
-
 -- no steps
-pub nothing_placed : (entries : List Entry) (steps : List Step) (places : List (Option ℕ)) → steps ≡ [] → ArePlaced entries steps places
-nothing_placed entries steps places is = λ k n s at here.
-    let none : slice_get [] k ≡ Some s = ap (λ (ts : List Step). slice_get ts k) (sym is) ∙ here in
-    absurd (omega (arith, slice_get_within [] k s none))
-
 pub same_none : (others entries : List Entry) (same : List Bool) → same ≡ [] → AreSame others entries same
 same_none others entries same is = λ n e.
     let none : slice_get [] n ≡ Some true = ap (λ (bs : List Bool). slice_get bs n) (sym is) ∙ e in

@@ -1,9 +1,9 @@
 -- What READ finds: the question that is kept, and a database that an edit changes.
-use Rattle.std.specs.Prelude.{IfSome, IsTrue, slice_get, slice_index_or, slice_set}
+use Rattle.std.specs.Prelude.{IfSome, IsTrue, slice_get, slice_set}
 use Rattle.std.specs.Option.{ForSome, option_map}
 use Rattle.std.proofs.Common.{◌≡◌, ◌∙◌, ap, sym, refl, subst, ℕ, zero, suc, ◌+◌, ◌<◌, ◌≤◌, List, [], ◌∷◌, ◌++◌, length, take, drop, map, Option, Some, None, arith}
 use Rattle.std.proofs.lemmas.List.{length-map, map-set}
-use Rattle.std.proofs.lemmas.Option.{get_or_from_slice_get, slice_get-get_or, slice_get-map, slice_get_within}
+use Rattle.std.proofs.lemmas.Option.{slice_get-map}
 use Rattle.bt_text.specs.NameList.{are_apart}
 use Rattle.bt_bib.specs.BibText.{pieces_of}
 use Rattle.bt_bib.specs.Items.{PlacedItem, items_of}
@@ -17,9 +17,6 @@ use Rattle.bt_run.specs.ReadCommand.{Job, declared_before, found_for}
 use Rattle.bt_run.specs.inner.Cases.{text_in}
 use Rattle.bt_run.specs.declared.asking.Asking.{Asking}
 use Rattle.bt_run.specs.inner.Asked.{question_for, question_of, with_databases}
-use Rattle.bt_run.specs.declared.database_edit.DatabaseEdit.{DatabaseEdit}
-use Rattle.bt_run.specs.inner.Edits.{IsEditAmong, IsSplicedBy}
-use Rattle.bt_run.proofs.EditLemmas.{is_edit, spliced_by}
 
 -- ---- a list with another element in one place
 
@@ -45,24 +42,12 @@ one_other xs ys k x y here there front back =
 
 -- ---- an edit
 
-pub edit_of_kept : (q : Question) (texts : List (List ℕ)) (e : DatabaseEdit) (items : List PlacedPiece) → q.databases ≡ map pieces_of texts → items ≡ pieces_of e.text → IsEditAmong texts e → IsEditOf q e.number items e.edit
-edit_of_kept q texts e items read are_items is =
-    let old = slice_index_or texts e.number [] in
-    record {
-      old = pieces_of old;
-      here = ap (λ (ds : List (List PlacedPiece)). slice_get ds e.number) read ∙ slice_get-map pieces_of texts e.number ∙ ap (λ (o : Option (List ℕ)). option_map pieces_of o) (slice_get-get_or texts e.number [] is.within);
-      edit = subst (λ (ps : List PlacedPiece). IsItemsEdit (pieces_of old) ps e.edit) (sym are_items) (is_edit (pieces_of old) (pieces_of e.text) e.edit is.edit);
-    }
-
--- of the database with its old text
-pub edit_among : (texts : List (List ℕ)) (text : List ℕ) (number : ℕ) (e : DatabaseEdit) → slice_get texts number ≡ Some text → e.number ≡ number → IsItemsEdit (pieces_of text) (pieces_of e.text) e.edit → IsEditAmong texts e
-edit_among texts text number e here is_number is =
-    let there : slice_get texts e.number ≡ Some text = ap (slice_get texts) is_number ∙ here in
-    let old = sym (get_or_from_slice_get texts e.number text [] there) in
-    record {
-      within = slice_get_within texts e.number text there;
-      edit = subst (λ (t : List ℕ). IsSplicedBy (pieces_of t) (pieces_of e.text) e.edit) old (spliced_by (pieces_of text) (pieces_of e.text) e.edit is);
-    }
+pub edit_of_kept : (q : Question) (texts : List (List ℕ)) (number : ℕ) (old new : List ℕ) (was items : List PlacedPiece) (e : ItemsEdit) → q.databases ≡ map pieces_of texts → slice_get texts number ≡ Some old → was ≡ pieces_of old → items ≡ pieces_of new → IsItemsEdit was (pieces_of new) e → IsEditOf q number items e
+edit_of_kept q texts number old new was items e read here are_was are_items edit = record {
+  old = pieces_of old;
+  here = ap (λ (ds : List (List PlacedPiece)). slice_get ds number) read ∙ slice_get-map pieces_of texts number ∙ ap (λ (o : Option (List ℕ)). option_map pieces_of o) here;
+  edit = subst (λ (ps : List PlacedPiece). IsItemsEdit ps items e) are_was (subst (λ (ps : List PlacedPiece). IsItemsEdit was ps e) (sym are_items) edit);
+}
 
 -- and what is asked after it
 pub put_texts : (q r : Question) (texts : List (List ℕ)) (number : ℕ) (text : List ℕ) (items : List PlacedPiece) → q.databases ≡ map pieces_of texts → items ≡ pieces_of text → r ≡ with_database number items q → r ≡ with_databases (map pieces_of (slice_set texts number text)) q

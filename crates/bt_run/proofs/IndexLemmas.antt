@@ -1,22 +1,23 @@
 -- The places of steps by their names.
 use Rattle.std.specs.Prelude.{unwrap_or, if◌then◌else◌, slice_get, slice_index_or, MatchOption, Contains}
-use Rattle.std.specs.Option.{option_map}
 use Rattle.std.specs.Cmp.{IsEquivalence, and_equiv, on_equiv, nat_eq_equiv}
 use Rattle.std.specs.Cmp.Lexicographic.{on_texts_equal}
 use Rattle.std.specs.HashMap as hashed
-use Rattle.std.proofs.Common.{◌≡◌, refl, sym, ap, ◌∙◌, subst, ◌⊎◌, inl, inr, ◌+◌, ◌<◌, ℕ, Bool, true, false, List, [], ◌∷◌, ◌++◌, Option, Some, None, All, length, map, arith}
+use Rattle.std.proofs.Common.{◌≡◌, refl, sym, ap, ◌∙◌, subst, ◌⊎◌, inl, inr, ◌+◌, ◌<◌, ℕ, Bool, true, false, List, [], ◌∷◌, ◌++◌, Option, Some, None, All, length, arith}
 use Rattle.std.proofs.lemmas.Bool.{cases_lt}
 use Rattle.std.proofs.lemmas.List.Elements.{Contains-append_left, Contains-append_right}
-use Rattle.std.proofs.lemmas.Option.{slice_get_within, slice_get-get_or, slice_get-map, get_or_from_slice_get}
+use Rattle.std.proofs.lemmas.Option.{slice_get_within, slice_get-get_or, get_or_from_slice_get}
 use Rattle.bt_style.specs.declared.style.Target.{Target}
 use Rattle.bt_style.specs.Reach.{is_among}
+use Rattle.bt_actions.specs.declared.entry.Entry.{Entry}
 use Rattle.bt_machine.specs.declared.input.Input.{Input}
 use Rattle.bt_run.specs.declared.course.Step.{Step}
+use Rattle.bt_run.specs.declared.mark.Mark.{Mark}
 use Rattle.bt_run.specs.declared.index.StepName.{StepName}
 use Rattle.bt_run.specs.declared.index.Index.{Index}
 use Rattle.bt_run.specs.Course.{key_in}
 use Rattle.bt_run.specs.inner.Index.{key_or_none, same_name, step_name, places_at, IsIndex}
-use Rattle.bt_run.specs.inner.Tags.{tag_of, step_tag}
+use Rattle.bt_run.specs.inner.Marks.{tag_of, step_tag, AreMarked}
 use Rattle.bt_run.specs.inner.Work.{IsLike, IsUnlikeAt}
 use Rattle.bt_run.proofs.WorkLemmas.{key_same}
 
@@ -106,9 +107,12 @@ like_tag command names i s like =
     let keys : key_in s.input ≡ key_in i = key_same (is_among names) s.input i like.agree in
     λ j. tag_of (like.of_command j) (keys j)
 
-pub tagged_like : (steps : List Step) (tags : List ℕ) (n : ℕ) (s : Step) (tag : ℕ) → tags ≡ map step_tag steps → slice_get steps n ≡ Some s → step_tag s ≡ tag → slice_get tags n ≡ Some tag
-tagged_like steps tags n s tag are at is =
-    ap (λ (ts : List ℕ). slice_get ts n) are ∙ slice_get-map step_tag steps n ∙ ap (option_map step_tag) at ∙ ap Some is
+-- a step with another tag isn't like
+pub other_tag : (entries : List Entry) (steps : List Step) (marks own : List Mark) (k : ℕ) (d : Mark) (command : ℕ) (names : List Target) (i : Input) → AreMarked entries steps marks → own ≡ marks → k < length marks → ((slice_index_or own k d).tag ≡ tag_of command (key_in i) → ⊥) → IsUnlikeAt command names i steps k
+other_tag entries steps marks own k d command names i h is lt other = λ s at like.
+    let m = slice_index_or marks k d in
+    let tagged : m.tag ≡ step_tag s = (h.each k s m at (slice_get-get_or marks k d lt)).tagged in
+    other (ap (λ (ms : List Mark). (slice_index_or ms k d).tag) is ∙ tagged ∙ like_tag command names i s like)
 
 -- where no step at the places of a name is like, none is
 pub none_like : (command : ℕ) (names : List Target) (i : Input) (steps : List Step) (index : Index) (places : List ℕ) → IsIndex steps index → places ≡ places_at index (step_name command i) → All (IsUnlikeAt command names i steps) places → All (λ s. IsLike command names i s → ⊥) steps

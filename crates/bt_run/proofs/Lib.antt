@@ -12,9 +12,10 @@ pub mod WorkLemmas
 pub mod EarlierLemmas
 pub mod TurnLemmas
 pub mod LinkLemmas
-pub mod EditLemmas
+pub mod MarkLemmas
 pub mod FindingLemmas
 pub mod AlikeLemmas
+pub mod UnseenLemmas
 pub mod IndexLemmas
 pub mod laws
 mod rows

@@ -1,7 +1,7 @@
 -- Steps for one entry, one after another, with one step more.
 use Rattle.std.specs.Prelude.{slice_get, slice_set, slice_index_or, ◌⊎◌, IfSome, IsTrue}
-use Rattle.std.specs.Option.{option_map}
-use Rattle.std.proofs.Common.{◌≡◌, refl, sym, ap, ◌∙◌, subst, inl, inr, ℕ, zero, suc, ◌+◌, ◌<◌, Bool, List, [], ◌∷◌, ◌++◌, length, map, Option, Some, None, arith}
+use Rattle.std.specs.Option.{option_map, ForSome}
+use Rattle.std.proofs.Common.{◌≡◌, refl, sym, ap, ◌∙◌, subst, inl, inr, ℕ, zero, suc, ◌<◌, Bool, List, [], ◌∷◌, ◌++◌, length, map, Option, Some, None, arith}
 use Rattle.std.proofs.lemmas.Option.{slice_get_within, slice_get-map, slice_get-get_or}
 use Rattle.std.proofs.lemmas.List.{length-append, get_or-set_same}
 use Rattle.bt_style.specs.declared.style.Target.{Target}
@@ -13,16 +13,11 @@ use Rattle.bt_machine.specs.OwnEntry.{IsPlace}
 use Rattle.bt_run.specs.declared.course.Step.{Step}
 use Rattle.bt_run.specs.Course.{input_at}
 use Rattle.bt_run.specs.inner.Course.{with_variables, variables_back}
-use Rattle.bt_run.specs.inner.Turn.{IsSharedFrom}
-use Rattle.bt_run.specs.inner.Links.{entry_after, at_entry, with_last, AreLast, AreLinked, GoesOn, IsAsLeft, IsLeftAt, IsLink, IsLinked}
+use Rattle.bt_run.specs.inner.Turn.{IsEntered, IsSharedFrom}
+use Rattle.bt_run.specs.inner.Links.{at_entry, with_last, AreLast, GoesOn, IsAsLeft, IsLeftAt, IsLink, IsLinked}
 use Rattle.bt_run.proofs.EarlierLemmas.{last_or}
 
 -- no steps
-
-pub none_linked : (steps : List Step) (previous : List (Option ℕ)) → previous ≡ [] → AreLinked steps previous
-none_linked steps previous is = λ k j at.
-    let none : slice_get [] k ≡ Some (Some j) = ap (λ (ps : List (Option ℕ)). slice_get ps k) (sym is) ∙ at in
-    absurd (omega (arith, slice_get_within [] k (Some j) none))
 
 pub none_last : (w : World) (steps : List Step) (lasts : List (Option ℕ)) → lasts ≡ [] → AreLast w steps lasts
 none_last w steps lasts is = λ n k at.
@@ -41,7 +36,7 @@ nowhere_last w steps lasts entries are = λ n k at.
     nothing_mapped (Some e) k h = absurd cc
 
 -- what stands in a list with one element more, below it
-inside : {X : Type 0} (xs : List X) (x y : X) (k : ℕ) → k < length xs → slice_get (xs ++ x ∷ []) k ≡ Some y → slice_get xs k ≡ Some y
+pub inside : {X : Type 0} (xs : List X) (x y : X) (k : ℕ) → k < length xs → slice_get (xs ++ x ∷ []) k ≡ Some y → slice_get xs k ≡ Some y
 inside xs x y k lt at = inside_or (last_or xs x y k at)
   where
     inside_or : (slice_get xs k ≡ Some y) ⊎ ((k ≡ length xs) × (x ≡ y)) → slice_get xs k ≡ Some y
@@ -67,7 +62,7 @@ other_entry (d ∷ ds) zero (suc n) e h = refl
 other_entry (d ∷ ds) (suc m) zero e h = refl
 other_entry (d ∷ ds) (suc m) (suc n) e h = other_entry ds m n e (λ p. h (ap suc p))
 
-if_some : (o : Option ℕ) (P : ℕ → Type 0) → IfSome o P → (k : ℕ) → o ≡ Some k → P k
+pub if_some : (o : Option ℕ) (P : ℕ → Type 0) → IfSome o P → (k : ℕ) → o ≡ Some k → P k
 if_some None P h k e = absurd cc
 if_some (Some i) P h k e =
     let same : i ≡ k = cc in
@@ -140,52 +135,29 @@ origins_more w v earlier s t x lasts origin shared from next is placed entries p
       left = λ u there. (let same : s ≡ u = cc in subst (IsAsLeft v n) same own);
     })
 
-last_of : (w : World) (steps : List Step) (lasts : List (Option ℕ)) (s : Step) (t : Target) (x : Option ℕ) (j : ℕ) → AreLast w steps lasts → s.input ≡ input_at t x w → at_entry lasts x j → (j < length steps) × ((a : Step) → slice_get steps j ≡ Some a → GoesOn a s)
-last_of w steps lasts s t None j h is at = absurd at
-last_of w steps lasts s t (Some n) j h is at =
-    let last : IsLeftAt w steps n j = h n j at in (
-      last.within,
-      λ a here.
-          let left : IsAsLeft w n a = last.left a here in
-          record { entry = ap (λ (i : Input). i.entry) is ∙ sym left.entry; preamble = ap (λ (i : Input). i.preamble) is ∙ sym left.preamble },
-    )
+-- a step goes on with the entry of the last one for it
+pub link_to : (w : World) (steps : List Step) (lasts : List (Option ℕ)) (s : Step) (t : Target) (x : Option ℕ) (j : ℕ) → AreLast w steps lasts → s.input ≡ input_at t x w → at_entry lasts x j → IsLink (steps ++ s ∷ []) (length steps) s j
+link_to w steps lasts s t None j h is at = absurd at
+link_to w steps lasts s t (Some n) j h is at =
+    let last : IsLeftAt w steps n j = h n j at in
+    record {
+      below = last.within;
+      on = λ a here.
+          let left : IsAsLeft w n a = last.left a (inside steps s a j last.within here) in
+          record { entry = ap (λ (i : Input). i.entry) is ∙ sym left.entry; preamble = ap (λ (i : Input). i.preamble) is ∙ sym left.preamble };
+    }
 
-newest : (steps : List Step) (s b : Step) (a : Step) (k : ℕ) → k ≡ length steps → GoesOn a s → (slice_get steps k ≡ Some b) ⊎ ((k ≡ length steps) × (s ≡ b)) → GoesOn a b
-newest steps s b a k end on (inl here) = absurd (omega (arith, slice_get_within steps k b here, end))
-newest steps s b a k end on (inr last) = subst (GoesOn a) last.1 on
-
-pub linked_more : (w : World) (steps : List Step) (previous lasts : List (Option ℕ)) (s : Step) (t : Target) (x p : Option ℕ) → length previous ≡ length steps → AreLinked steps previous → AreLast w steps lasts → s.input ≡ input_at t x w → IfSome p (at_entry lasts x) → AreLinked (steps ++ s ∷ []) (previous ++ p ∷ [])
-linked_more w steps previous lasts s t x p counted links h is known = λ k j at. linked_or k j (last_or previous p (Some j) k at)
-  where
-    linked_or : (k j : ℕ) → (slice_get previous k ≡ Some (Some j)) ⊎ ((k ≡ length previous) × (p ≡ Some j)) → IsLink (steps ++ s ∷ []) k j
-    linked_or k j (inl here) =
-        let link : IsLink steps k j = links k j here in
-        let lt = slice_get_within previous k (Some j) here in
-        record {
-          below = link.below;
-          on = λ a b from to. link.on a b (inside steps s a j (omega (arith, lt, counted, link.below)) from) (inside steps s b k (omega (arith, lt, counted)) to);
-        }
-    linked_or k j (inr last) =
-        let own = last_of w steps lasts s t x j h is (if_some p (at_entry lasts x) known j last.1) in
-        record {
-          below = omega (arith, own.0, last.0, counted);
-          on = λ a b from to. newest steps s b a k (omega (arith, last.0, counted)) (own.1 a (inside steps s a j own.0 from)) (last_or steps s b k to);
-        }
+pub link_more : (steps : List Step) (s : Step) (k : ℕ) (b : Step) (j : ℕ) → k < length steps → IsLink steps k b j → IsLink (steps ++ s ∷ []) k b j
+link_more steps s k b j lt link = record { below = link.below; on = λ a from. link.on a (inside steps s a j (omega (arith, lt, link.below)) from) }
 
 -- The next earlier step for an entry that is as the last one left it.
-linked_input : (w : World) (earlier : List Step) (previous origins : List (Option ℕ)) (next : ℕ) (x : Option ℕ) (s : Step) → AreLinked earlier previous → AreLast w earlier origins → IsLinked previous next origins x → slice_get earlier next ≡ Some s → (s.input.entry ≡ entry_in w.entries x) × (s.input.preamble ≡ w.preamble)
-linked_input w earlier previous origins next None s links h linked here = absurd linked.origin
-linked_input w earlier previous origins next (Some n) s links h linked here =
-    let link = links next linked.number linked.link in
+pub linked_input : (w : World) (earlier : List Step) (previous : Option ℕ) (origins : List (Option ℕ)) (k : ℕ) (s : Step) (x : Option ℕ) → ForSome previous (IsLink earlier k s) → AreLast w earlier origins → IsLinked previous origins x → IsEntered w x s.input
+linked_input w earlier previous origins k s None links h linked = absurd linked.origin
+linked_input w earlier previous origins k s (Some n) links h linked =
+    let link = links linked.number linked.link in
     let last = h n linked.number linked.origin in
     let a = slice_index_or earlier linked.number s in
     let at : slice_get earlier linked.number ≡ Some a = slice_get-get_or earlier linked.number s last.within in
-    let on : GoesOn a s = link.on a s at here in
+    let on : GoesOn a s = link.on a at in
     let left : IsAsLeft w n a = last.left a at in
-    (on.entry ∙ left.entry, on.preamble ∙ left.preamble)
-
-pub linked_entry : (w : World) (earlier : List Step) (previous origins : List (Option ℕ)) (next : ℕ) (x : Option ℕ) (s : Step) → AreLinked earlier previous → AreLast w earlier origins → IsLinked previous next origins x → slice_get earlier next ≡ Some s → s.input.entry ≡ entry_in w.entries x
-linked_entry w earlier previous origins next x s links h linked here = (linked_input w earlier previous origins next x s links h linked here).0
-
-pub linked_preamble : (w : World) (earlier : List Step) (previous origins : List (Option ℕ)) (next : ℕ) (x : Option ℕ) (s : Step) → AreLinked earlier previous → AreLast w earlier origins → IsLinked previous next origins x → slice_get earlier next ≡ Some s → s.input.preamble ≡ w.preamble
-linked_preamble w earlier previous origins next x s links h linked here = (linked_input w earlier previous origins next x s links h linked here).1
+    record { entry = on.entry ∙ left.entry; preamble = on.preamble ∙ left.preamble }

@@ -1,19 +1,18 @@
 -- Steps one after another, and what is known of the next one of an earlier run.
 use Rattle.std.specs.Prelude.{Contains, slice_get, drop, slice_index_or, sum_by, ◌⊎◌}
-use Rattle.std.specs.Option.{option_map, ForSome}
-use Rattle.std.proofs.Common.{◌≡◌, refl, sym, ap, ◌∙◌, subst, inl, inr, ℕ, zero, suc, ◌+◌, ◌<◌, ◌≤◌, List, [], ◌∷◌, ◌++◌, length, map, Option, Some, None, arith, add-one}
-use Rattle.std.proofs.lemmas.List.{map-append, length-append}
+use Rattle.std.specs.Option.{ForSome}
+use Rattle.std.proofs.Common.{◌≡◌, refl, sym, ap, ◌∙◌, subst, inl, inr, ℕ, zero, suc, ◌+◌, ◌<◌, ◌≤◌, List, [], ◌∷◌, ◌++◌, length, Option, Some, arith, add-one}
+use Rattle.std.proofs.lemmas.List.{length-append}
 use Rattle.std.proofs.lemmas.List.Sums.{sum_by-append, sum_by-cons}
-use Rattle.std.proofs.lemmas.Option.{slice_get_within, slice_get-map, get_or_from_slice_get}
+use Rattle.std.proofs.lemmas.Option.{slice_get_within, get_or_from_slice_get}
 use Rattle.bt_style.specs.declared.style.Target.{Target}
-use Rattle.bt_actions.specs.World.{World, entry_in}
+use Rattle.bt_actions.specs.World.{World}
 use Rattle.bt_machine.specs.declared.input.Input.{Input}
 use Rattle.bt_run.specs.declared.course.Step.{Step}
 use Rattle.bt_run.specs.Course.{input_at}
 use Rattle.bt_run.specs.Counts.{calls_at}
 use Rattle.bt_run.specs.inner.Calls.{AreCalls, AreCallsFrom}
-use Rattle.bt_run.specs.inner.Tags.{step_tag}
-use Rattle.bt_run.specs.inner.Turn.{IsGiven, IsGivenAt, IsLeft, AreLeft, IsAfter, AreInTurn, IsSharedFrom}
+use Rattle.bt_run.specs.inner.Turn.{IsEntered, IsGiven, IsGivenAt, IsLeft, AreLeft, IsAfter, AreInTurn, IsSharedFrom}
 use Rattle.bt_run.proofs.EarlierLemmas.{last_or}
 
 -- A step more
@@ -43,8 +42,8 @@ given_next earlier w s from next h shared own = λ t at.
     record { globals = a.globals ∙ own.globals; held = a.held ∙ own.held }
 
 -- an input is what a step is given, if each of its parts is
-pub input_given : (i : Input) (t : Target) (x : Option ℕ) (w : World) → i.target ≡ t → i.entry ≡ entry_in w.entries x → IsGiven w i → i.preamble ≡ w.preamble → i ≡ input_at t x w
-input_given i t x w target entry given preamble = λ j. record { target = target j; entry = entry j; globals = given.globals j; held = given.held j; preamble = preamble j }
+pub input_given : (i : Input) (t : Target) (x : Option ℕ) (w : World) → i.target ≡ t → IsEntered w x i → IsGiven w i → i ≡ input_at t x w
+input_given i t x w target entered given = λ j. record { target = target j; entry = entered.entry j; globals = given.globals j; held = given.held j; preamble = entered.preamble j }
 
 -- worlds of one globals and held line
 pub given_alike : (steps : List Step) (n : ℕ) (w v : World) → v.globals ≡ w.globals → v.held ≡ w.held → IsGivenAt steps n w → IsGivenAt steps n v
@@ -68,16 +67,6 @@ none_left steps w is = λ n s at end. absurd (omega (arith, slice_get_within ste
 -- the step at a place is among them
 pub found_in : (steps : List Step) (n : ℕ) (s : Step) → slice_get steps n ≡ Some s → Contains steps s
 found_in steps n s at = (n, slice_get_within steps n s at, get_or_from_slice_get steps n s s at)
-
--- Tags
-
-pub tagged_more : (steps : List Step) (tags : List ℕ) (s : Step) (tag : ℕ) → tags ≡ map step_tag steps → tag ≡ step_tag s → tags ++ tag ∷ [] ≡ map step_tag (steps ++ s ∷ [])
-tagged_more steps tags s tag are is = (λ j. are j ++ is j ∷ []) ∙ sym (map-append step_tag steps (s ∷ []))
-
-pub tag_at : (steps : List Step) (tags : List ℕ) (n : ℕ) (s : Step) (tag : ℕ) → tags ≡ map step_tag steps → slice_get steps n ≡ Some s → slice_get tags n ≡ Some tag → tag ≡ step_tag s
-tag_at steps tags n s tag are at tag_is =
-    let same : Some tag ≡ Some (step_tag s) = sym tag_is ∙ ap (λ (ts : List ℕ). slice_get ts n) are ∙ slice_get-map step_tag steps n ∙ ap (option_map step_tag) at in
-    cc
 
 -- Calls
 

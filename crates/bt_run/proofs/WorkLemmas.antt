@@ -178,7 +178,7 @@ ran_counted p earlier command names i o cost before after reach none ran ticks =
     record { ran = rw one (omega (arith, ran)); ticks = rw one (omega (arith, ticks)) }
 
 -- an earlier step itself, met again
-same_itself : (p : Program) (s : Step) → agrees_with p s s ≡ true
+pub same_itself : (p : Program) (s : Step) → agrees_with p s s ≡ true
 unfolding agrees_with
 same_itself p s =
     let names = names_in p s.input in

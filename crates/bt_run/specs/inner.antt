@@ -3,13 +3,14 @@ pub mod Course
 pub mod Index
 pub mod Earlier
 pub mod Calls
-pub mod Tags
 pub mod Turn
 pub mod Links
+pub mod Marks
 pub mod Edits
 pub mod Asked
 pub mod Alike
 pub mod Found
+pub mod Unseen
 pub mod Work
 pub mod BodySet
 pub mod JobView

@@ -1,18 +1,18 @@
 //! What the files mean, by a run that reuses steps of an earlier run.
 
-ghost use Rattle.std.specs.Prelude.{◌≡◌, ◌≤◌, ◌-◌, length, IfOk, OnOk};
+ghost use Rattle.std.specs.Prelude.{◌≡◌, ◌≤◌, ◌-◌, ℕ, List, length, false, IfOk, OnOk};
 ghost use Rattle.std.specs.Option.{ForSome};
 ghost use Rattle.bt_style.specs.Program.{program_of};
 ghost use Rattle.bt_run.specs.inner.Course.{recorded, IsArranged, IsOrdered};
-ghost use Rattle.bt_run.specs.Course.{course_world};
 ghost use Rattle.bt_run.specs.inner.Found.{AreFoundBy};
-ghost use Rattle.bt_run.specs.inner.Work.{AreKept, IsBegun, IsConsistent};
+ghost use Rattle.bt_run.specs.inner.Work.{AreKept, IsBegun, IsWork};
 ghost use Rattle.bt_run.specs.Steps.{StepsAre};
 ghost use Rattle.bt_run.specs.inner.Steps.{IsTaken};
 ghost use Rattle.bt_run.specs.Kept.{named_text, style_text, report_after};
 ghost use Rattle.bt_run.specs.Meaning.{style_run, meaning, trace};
 ghost use Rattle.bt_run.specs.inner.Cases.{run_with, shown_of};
 ghost use Rattle.bt_run.specs.inner.JobView.{job_of};
+ghost use Rattle.bt_run.specs.inner.Unseen.{AreTextsOf};
 ghost use Rattle.bt_run.specs.Shown.{meaning_of};
 
 use crate::bibliography::bbl_of;
@@ -80,6 +80,18 @@ pub struct Report {
 }
 
 impl Report {
+    /// The report of a run that reuses all these steps.
+    pub(crate) fn of_nothing(status: u8, steps: &[Shared<Step>]) -> Report
+        ensures { result ≡ record { status = status; ran = 0; reused = length steps.now; ticks = 0 } }
+    {
+        Report {
+            status,
+            ran: 0,
+            reused: steps.len() as u64,
+            ticks: 0,
+        }
+    }
+
     fn of(status: u8, steps: &[Shared<Step>], reuse: &Reuse) -> Report
         requires fewer { reuse.now.ran ≤ length steps.now }
         ensures status { result.status ≡ status }
@@ -107,8 +119,8 @@ fn carry_out_style(
     requires begun { IsBegun steps.old }
     requires found { AreFoundBy steps.old.is_earlier steps.old.resolution job.earlier.now.entries }
     ensures run { IfOk result (λ course. recorded course steps.new.steps ≡ style_run (job_of job.entry) log) }
-    ensures consistent { IfOk result (λ course.
-        IsConsistent (program_of job.entry.style.now) job.entry.earlier.now (course_world course) steps.new) }
+    ensures work { OnOk result
+        (IsWork (program_of job.entry.style.now) job.entry.earlier.now.steps steps.new.steps steps.new.reuse) }
     ensures ordered { IfOk result (λ course. IsOrdered course) }
     ensures kept { IfOk result (λ course. AreKept course.entries steps.new) }
 {
@@ -122,7 +134,7 @@ fn carry_out_style(
         steps.calls,
     )?;
     tell_counts(alloc, &mut course.log, &calls)?;
-    steps.all_calls = Some(calls);
+    steps.calls = Some(calls);
     Ok(course)
 }
 
@@ -142,7 +154,7 @@ impl StyleRun {
 }
 
 /// The keys that the `.aux` files cite, shared.
-fn cites_of(citations: &Citations) -> Result<Cites, AllocError>
+pub fn cites_of(citations: &Citations) -> Result<Cites, AllocError>
     ensures { IfOk result (λ cites. cites ≡ record { keys = citations.now.keys; star = citations.now.star }) }
 {
     Ok(Cites {
@@ -300,6 +312,7 @@ impl Ran {
         ensures report { result.report ≡ self.report }
         ensures text { result.kept.text ≡ self.text }
         ensures steps { result.kept.steps ≡ steps.steps }
+        ensures present { result.kept.is_present ≡ false }
     {
         let Ran {
             answers,
@@ -310,10 +323,8 @@ impl Ran {
         } = self;
         let KeptSteps {
             steps,
-            places,
-            tags,
-            previous,
-            all_calls: calls,
+            marks,
+            calls,
             resolution,
             is_own,
             readings,
@@ -322,14 +333,13 @@ impl Ran {
         let kept = Kept {
             text,
             steps,
-            places,
+            marks,
             entries,
             order,
-            tags,
-            previous,
             calls,
             resolution,
             is_own,
+            is_present: false,
             written: answers.bbl.len(),
             readings,
         };
@@ -356,8 +366,11 @@ pub fn answers_after(
         ≡ report_after kept.old.text kept.old.steps files.now root.now min) }
     ensures text { IfOk result (λ run. run.kept.text ≡ style_text files.now root.now) }
     ensures steps { IfOk result (λ run. run.kept.steps ≡ trace files.now root.now min) }
+    ensures databases { IfOk result (λ run. AreTextsOf files.now root.now run.kept) }
     ensures same_text { kept.new.text ≡ kept.old.text }
     ensures same_steps { kept.new.steps ≡ kept.old.steps }
+    ensures others { (others : List File) (from : List ℕ) →
+        AreTextsOf others from kept.old → AreTextsOf others from kept.new }
 {
     let readings = kept.readings.share(alloc)?;
     let is_earlier = mem::replace(&mut kept.is_own, false);

@@ -71,7 +71,7 @@ impl Asking {
     }
 }
 
-fn is_same_declared(declared: &Declared, other: &Declared) -> bool
+pub fn is_same_declared(declared: &Declared, other: &Declared) -> bool
     ensures { IsTrue result → declared.now ≡ other.now }
 {
     are_same(declared.fields.as_slice(), other.fields.as_slice())
@@ -79,7 +79,7 @@ fn is_same_declared(declared: &Declared, other: &Declared) -> bool
         && are_same(declared.macros.as_slice(), other.macros.as_slice())
 }
 
-fn is_same_cites(cites: &Cites, other: &Cites) -> bool
+pub fn is_same_cites(cites: &Cites, other: &Cites) -> bool
     ensures { IsTrue result → cites.now ≡ other.now }
 {
     is_same_place(cites.star, other.star) && are_same(cites.keys.as_slice(), other.keys.as_slice())

@@ -1,12 +1,11 @@
-//! How a splice changes a database.
+//! How a splice changes a database, and what that changes of what READ found.
 
-ghost use Rattle.std.specs.Prelude.{◌≡◌, IfOk, IsTrue, slice_set};
+ghost use Rattle.std.specs.Prelude.{◌≡◌, IsTrue, slice_set};
 ghost use Rattle.bt_bib.specs.BibText.{pieces_of};
-ghost use Rattle.bt_bib.specs.Splice.{IsItemsEdit, IsSplice};
 
-use bt_bib::{Items, ItemsEdit, Splice};
+use bt_bib::Items;
+use bt_resolve::ResolvedEdit;
 use bt_text::{Bytes, Shared, are_same, equal_bytes};
-use std::alloc::{AllocError, Global};
 
 /// A database that is known by its number, from 0.
 #[derive(Clone, Copy)]
@@ -24,8 +23,8 @@ pub struct DatabaseEdit {
     pub text: Shared<Bytes>,
     /// The items of that text.
     pub items: Shared<Items>,
-    /// How they differ from those before.
-    pub edit: ItemsEdit,
+    /// What it changes of what READ found. None if that may be more than the values of one entry.
+    pub made: Option<ResolvedEdit>,
     ghost read: { items ≡ pieces_of text },
 }
 
@@ -48,34 +47,5 @@ impl DatabaseEdit {
             return false;
         }
         are_same(&kept[number + 1..], &texts[number + 1..])
-    }
-}
-
-impl KnownDatabase<'_> {
-    /// How a splice that makes `text` of its text `old` changes it. Only the part that the splice can have changed is read:
-    /// from the boundary before it to the first one after it that both texts have.
-    pub fn spliced(
-        self,
-        alloc: Global,
-        old: &[u8],
-        text: &Shared<Bytes>,
-        splice: Splice,
-    ) -> Result<DatabaseEdit, AllocError>
-        requires read { self.items.now ≡ pieces_of old.now }
-        requires splice { IsSplice old.now text.now splice.begin splice.end splice.inserted }
-        ensures number { IfOk result (λ made. made.number ≡ self.entry.number) }
-        ensures edit { IfOk result (λ made. IsItemsEdit (pieces_of old.now) (pieces_of made.text) made.edit) }
-    {
-        let new = text.as_slice();
-        let edit = self.items.edit(alloc, old, new, splice)?;
-        let items = Shared::new(alloc, self.items.edited(alloc, new, &edit)?)?;
-        let text = text.share()?;
-        let made = DatabaseEdit {
-            number: self.number,
-            text,
-            items,
-            edit,
-        };
-        Ok(made)
     }
 }

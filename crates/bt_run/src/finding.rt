@@ -34,7 +34,7 @@ fn keep_up(
     if !asking.is_like(kept.resolution.question()) {
         return Ok(Alike::Unknown);
     }
-    let alike = kept.follow(alloc, asking.texts.as_slice())?;
+    let alike = kept.follow(asking.texts.as_slice())?;
     Ok(alike)
 }
 

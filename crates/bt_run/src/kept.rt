@@ -1,64 +1,59 @@
 //! What is kept of a run for the next one.
 
-ghost use Rattle.std.specs.Prelude.{◌≡◌, None, [], length, map, IfSome};
+ghost use Rattle.std.specs.Prelude.{◌≡◌, None, [], length, IfSome};
 ghost use Rattle.bt_bib.specs.BibText.{pieces_of};
 ghost use Rattle.bt_bib.specs.Splice.{IsSplice};
 ghost use Rattle.bt_run.specs.Steps.{StepsAre};
 ghost use Rattle.bt_run.specs.inner.Course.{IsArranged};
-ghost use Rattle.bt_run.specs.inner.Earlier.{ArePlaced};
-ghost use Rattle.std.specs.Option.{ForSome};
-ghost use Rattle.bt_run.specs.inner.Tags.{step_tag};
+ghost use Rattle.std.specs.Option.{ForSome, option_map};
+ghost use Rattle.bt_run.specs.inner.Marks.{AreMarked};
 ghost use Rattle.bt_run.specs.inner.Turn.{AreInTurn};
-ghost use Rattle.bt_run.specs.inner.Links.{AreLinked};
 ghost use Rattle.bt_run.specs.inner.Calls.{AreCalls};
 ghost use Rattle.bt_run.specs.inner.Found.{AreFoundBy};
 
 use crate::counts::Calls;
 use crate::course::Step;
 use crate::kept_resolution::KeptResolution;
+use crate::mark::Mark;
 use crate::readings::Readings;
 use bt_actions::Entry;
 use bt_bib::{Items, Splice};
 use bt_text::{Bytes, Sequence, Shared};
 use std::alloc::{AllocError, Global};
 
-/// What is kept of a run: the text of its style, if it had one, its steps with the places of their entries, its entries,
-/// and what was read.
+/// What is kept of a run: the text of its style, if it had one, its steps, its entries, and what was read.
 #[derive(Drop)]
 pub struct Kept {
     pub text: Option<Shared<Bytes>>,
     pub steps: Sequence<Shared<Step>>,
-    pub places: Sequence<Option<usize>>,
+    pub marks: Sequence<Mark>,
     pub entries: Sequence<Entry>,
     /// The places of these entries, in their order at the end of the run.
     pub order: Sequence<usize>,
-    /// The tag of each step.
-    pub tags: Sequence<u64>,
-    /// The step before each for the same entry, if there is one.
-    pub previous: Sequence<Option<usize>>,
     /// How often the steps called each built-in function, if known.
     pub calls: Option<Calls>,
     /// What READ found, in this run or an earlier one. The next run takes it.
     pub resolution: Option<KeptResolution>,
     /// Whether READ found it in this run.
     pub is_own: bool,
+    /// Whether its databases are known to have the texts of the files of this run. Nobody asks before an edit that may
+    /// leave the run as it is.
+    pub is_present: bool,
     /// The length of its bibliography, for which the next run makes room.
     pub written: usize,
     /// What was read of other files than databases.
     pub readings: Readings,
     ghost true_steps: { StepsAre text steps },
-    ghost placed: { ArePlaced entries steps places },
+    ghost marked: { AreMarked entries steps marks },
     ghost arranged: { IsArranged (length entries) order },
-    ghost tagged: { tags ≡ map step_tag steps },
     ghost called: { ForSome calls (AreCalls steps) },
     ghost in_turn: { AreInTurn steps },
     ghost found: { AreFoundBy is_own resolution entries },
-    ghost linked: { AreLinked steps previous },
 }
 
 impl Kept {
     /// Nothing. It takes no memory.
-    #[tactic(auto, using(crate::proofs::OrderLemmas::arranged_none, crate::proofs::TurnLemmas::none_in_turn, crate::proofs::LinkLemmas::none_linked))]
+    #[tactic(auto, using(crate::proofs::OrderLemmas::arranged_none, crate::proofs::TurnLemmas::none_in_turn, crate::proofs::MarkLemmas::none_marked))]
     pub fn nothing(alloc: Global) -> Kept
         ensures text { result.text ≡ None }
         ensures steps { result.steps ≡ [] }
@@ -66,14 +61,13 @@ impl Kept {
         Kept {
             text: None,
             steps: Sequence::new(alloc),
-            places: Sequence::new(alloc),
+            marks: Sequence::new(alloc),
             entries: Sequence::new(alloc),
             order: Sequence::new(alloc),
-            tags: Sequence::new(alloc),
-            previous: Sequence::new(alloc),
             calls: None,
             resolution: None,
             is_own: false,
+            is_present: false,
             written: 0,
             readings: Readings::nothing(alloc),
         }
@@ -111,6 +105,8 @@ impl Kept {
         requires { IsSplice old.now text.now splice.begin splice.end splice.inserted }
         ensures same_text { self.new.text ≡ self.old.text }
         ensures same_steps { self.new.steps ≡ self.old.steps }
+        ensures same_present { self.new.is_present ≡ self.old.is_present }
+        ensures same_texts { option_map (λ k. k.texts) self.new.resolution ≡ option_map (λ k. k.texts) self.old.resolution }
     {
         match &mut self.resolution {
             None => Ok(()),

@@ -9,19 +9,20 @@
 
 ghost use Rattle.std.specs.Prelude.{◌≡◌, ◌≤◌, None, length, map, slice_set, IfOk, IfSome, IsTrue};
 ghost use Rattle.std.specs.Option.{ForSome};
+ghost use Rattle.std.proofs.Props.{props};
 ghost use Rattle.bt_bib.specs.BibText.{pieces_of};
 ghost use Rattle.bt_bib.specs.Splice.{IsSplice};
 ghost use Rattle.bt_text.specs.NameList.{are_apart};
-ghost use Rattle.bt_resolve.specs.inner.Kept.{IsResolvedEdit, resolved_for};
+ghost use Rattle.bt_resolve.specs.inner.Kept.{resolved_for};
 ghost use Rattle.bt_run.specs.inner.Alike.{IsAlike, is_known};
 ghost use Rattle.bt_run.specs.inner.Asked.{question_of, with_databases};
-ghost use Rattle.bt_run.specs.inner.Edits.{IsAmong, IsEditAmong, Makes};
+ghost use Rattle.bt_run.specs.inner.Edits.{IsAlikeAfter, IsAmong, IsEditIn, Makes, within_prop};
 
 use crate::alike::Alike;
 use crate::asking::Asking;
 use crate::database_edit::{DatabaseEdit, KnownDatabase};
 use bt_bib::{Items, Splice};
-use bt_resolve::{Question, Resolution, ResolvedEdit};
+use bt_resolve::{Question, Resolution};
 use bt_text::{Bytes, Sequence, Shared, are_same, equal_bytes};
 use std::alloc::{AllocError, Global};
 use std::mem;
@@ -34,7 +35,7 @@ pub struct KeptResolution {
     /// How the last splice changed one of these databases, if READ hasn't followed it.
     pub edit: Option<DatabaseEdit>,
     ghost read: { resolution.databases ≡ map pieces_of texts },
-    ghost edited: { ForSome edit (IsEditAmong texts) },
+    ghost edited: { ForSome edit (IsEditIn resolution) } by { Prim.hlevel (props, within_prop) },
 }
 
 impl KeptResolution {
@@ -107,16 +108,28 @@ impl KeptResolution {
         splice: Splice,
     ) -> Result<Option<DatabaseEdit>, AllocError>
         requires { IsSplice old.now text.now splice.begin splice.end splice.inserted }
-        ensures { IfOk result (λ edit. ForSome edit (IsEditAmong self.now.texts)) }
+        ensures { IfOk result (λ edit. ForSome edit (IsEditIn self.now.resolution)) }
     {
         let Some(known) = self.known(old) else {
             return Ok(None);
         };
-        let edit = known.spliced(alloc, old, text, splice)?;
-        Ok(Some(edit))
+        let KnownDatabase { number, items } = known;
+        let new = text.as_slice();
+        let edit = items.edit(alloc, old, new, splice)?;
+        let items = Shared::new(alloc, items.edited(alloc, new, &edit)?)?;
+        let made = self.resolution.edit(alloc, number, &items, &edit)?;
+        let text = text.share()?;
+        Ok(Some(DatabaseEdit {
+            number,
+            text,
+            items,
+            made,
+        }))
     }
 
-    /// Takes note of a splice that made `text` of the text `old`. After out of memory nothing has changed.
+    /// Takes note of a splice that made `text` of the text `old`. If `old` is the text of a database, only the part is read
+    /// that the splice can have changed: from the boundary before it to the first one after it that both texts have. After
+    /// out of memory nothing has changed.
     pub fn splice(
         &mut self,
         alloc: Global,
@@ -125,7 +138,8 @@ impl KeptResolution {
         splice: Splice,
     ) -> Result<(), AllocError>
         requires { IsSplice old.now text.now splice.begin splice.end splice.inserted }
-        ensures { self.new.resolution ≡ self.old.resolution }
+        ensures resolution { self.new.resolution ≡ self.old.resolution }
+        ensures texts { self.new.texts ≡ self.old.texts }
     {
         let edit = self.edit_by(alloc, old, text, splice)?;
         drop(mem::replace(&mut self.edit, edit));
@@ -142,56 +156,57 @@ impl KeptResolution {
         edit.makes(self.texts.as_slice(), texts)
     }
 
-    fn put(&mut self, edit: DatabaseEdit, made: ResolvedEdit)
-        requires none { self.old.edit ≡ None }
-        requires edit { IsResolvedEdit self.old.resolution edit.number edit.items made }
-        ensures { self.new.resolution
-            ≡ with_databases (map pieces_of (slice_set self.old.texts edit.number edit.text)) self.old.resolution }
+    /// Puts what the edit made in the place of what was found, if it made something. It can't fail.
+    pub fn put(&mut self)
+        ensures resolution { ForSome self.old.edit (λ edit. ForSome edit.made (λ made. self.new.resolution
+            ≡ with_databases (map pieces_of (slice_set self.old.texts edit.number edit.text)) self.old.resolution)) }
+        ensures texts { ForSome self.old.edit (λ edit. ForSome edit.made (λ made.
+            self.new.texts ≡ slice_set self.old.texts edit.number edit.text)) }
     {
+        let Some(edit) = self.edit.take() else {
+            return;
+        };
         let DatabaseEdit {
             number,
             text,
             items,
-            ..
+            made,
         } = edit;
+        let Some(made) = made else {
+            return;
+        };
         self.resolution.put(number, items, made);
         self.texts.set(number, text);
     }
 
-    /// Carries out an edit of a database and returns which entries stay. If more may change than the values of one entry,
-    /// it keeps the edit and returns `Unknown`.
-    fn carry_out(&mut self, alloc: Global, edit: DatabaseEdit) -> Result<Alike, AllocError>
-        requires none { self.old.edit ≡ None }
-        requires edit { IsEditAmong self.old.texts edit }
-        ensures made { IfOk result (λ alike. IsTrue (is_known alike) → self.new.resolution
-            ≡ with_databases (map pieces_of (slice_set self.old.texts edit.number edit.text)) self.old.resolution) }
-        ensures alike { IfOk result (λ alike.
-            IsAlike alike (resolved_for self.old.resolution) (resolved_for self.new.resolution)) }
+    /// Which entries stay after the edit, if that is known.
+    fn alike(&self) -> Result<Alike, AllocError>
+        ensures { IfOk result (λ alike. IsTrue (is_known alike) → IsAlikeAfter self.now.edit alike) }
     {
-        let found = self
-            .resolution
-            .edit(alloc, edit.number, &edit.items, &edit.edit)?;
-        let Some(made) = found else {
-            drop(self.edit.replace(edit));
-            return Ok(Alike::Unknown);
-        };
-        let alike = Alike::after(&made.seen)?;
-        self.put(edit, made);
-        Ok(alike)
+        if let Some(edit) = &self.edit
+            && let Some(made) = &edit.made
+        {
+            let alike = Alike::after(&made.seen)?;
+            return Ok(alike);
+        }
+        Ok(Alike::Unknown)
     }
 
     /// Goes over to these texts and returns which entries stay. If more may change than the values of one entry, it does
     /// nothing and returns `Unknown`.
-    pub fn follow(&mut self, alloc: Global, texts: &[Shared<Bytes>]) -> Result<Alike, AllocError>
+    pub fn follow(&mut self, texts: &[Shared<Bytes>]) -> Result<Alike, AllocError>
         ensures done { IfOk result (λ alike. IsTrue (is_known alike) → self.new.resolution
             ≡ with_databases (map pieces_of texts.now) self.old.resolution) }
         ensures alike { IfOk result (λ alike.
             IsAlike alike (resolved_for self.old.resolution) (resolved_for self.new.resolution)) }
     {
-        if self.is_edited(texts)
-            && let Some(edit) = self.edit.take()
-        {
-            return self.carry_out(alloc, edit);
+        if self.is_edited(texts) {
+            let alike = self.alike()?;
+            if !alike.is_known() {
+                return Ok(alike);
+            }
+            self.put();
+            return Ok(alike);
         }
         if are_same(self.texts.as_slice(), texts) {
             return Ok(Alike::All);

@@ -1,16 +1,16 @@
 //! The recorder of a session: it keeps each step, and reuses steps of the run before.
 
-ghost use Rattle.std.specs.Prelude.{◌≡◌, ◌<◌, [], true, Some, Contains, IfOk, IfSome, IsSome, IsTrue, OnOk, length, slice_get};
+ghost use Rattle.std.specs.Prelude.{◌≡◌, ◌<◌, [], Some, IfOk, IfSome, IsTrue, OnOk, length};
 ghost use Rattle.bt_style.specs.Program.{program_of};
 ghost use Rattle.bt_machine.specs.OwnEntry.{IsPlace};
 ghost use Rattle.bt_run.specs.Course.{course_world, input_at};
-ghost use Rattle.bt_run.specs.inner.Earlier.{AreSame, IsMarked};
+ghost use Rattle.bt_run.specs.inner.Earlier.{AreSame};
 ghost use Rattle.bt_run.specs.inner.Found.{AreFoundBy};
 ghost use Rattle.bt_run.specs.inner.Steps.{steps_under};
-ghost use Rattle.bt_run.specs.inner.Tags.{step_tag};
+ghost use Rattle.bt_run.specs.inner.Marks.{step_tag};
 ghost use Rattle.bt_run.specs.inner.Turn.{IsGivenAt, IsSharedFrom};
 ghost use Rattle.bt_run.specs.inner.Links.{AreLast};
-ghost use Rattle.bt_run.specs.inner.Work.{IsBegun, IsConsistent, IsNext};
+ghost use Rattle.bt_run.specs.inner.Work.{IsBegun, IsConsistent, IsMarkedAt, IsNext};
 
 use crate::alike::same_entries;
 use crate::counts::Calls;
@@ -19,29 +19,21 @@ use crate::job::Job;
 use crate::kept::{Before, Kept};
 use crate::kept_resolution::KeptResolution;
 use crate::known_calls::{Turn, count_step};
-use crate::links::{is_linked, last_for, no_numbers, note_last, number_at};
+use crate::links::{last_for, no_numbers, note_last};
+use crate::mark::{Mark, marks_of, tag_of};
 use crate::read_command::read;
 use crate::readings::Readings;
 use crate::recorder::Recorder;
 use crate::reuse::Reuse;
-use crate::reused_step::{Done, take_over_or_carry_out};
+use crate::reused_step::{Done, Marked, marked_at, take_over_or_carry_out};
 use crate::same_input::{Known, is_input};
 use crate::step::{cut_out, put_back};
 use crate::step_command::StepCommand;
-use crate::tag::tag_of;
 use bt_machine::{Input, step_depends_on_its_input};
 use bt_style::Target;
 use bt_text::{Sequence, Shared};
 use std::alloc::{AllocError, Global};
 
-/// A step of the previous run whose input is that of the next step.
-#[derive(Clone, Copy)]
-struct Again<'a> {
-    step: &'a Shared<Step>,
-    tag: u64,
-}
-
-/// The next step of a run.
 struct Next {
     step: Shared<Step>,
     tag: u64,
@@ -54,12 +46,7 @@ struct Next {
 pub struct KeptSteps {
     /// Those that were reused whole are shared with the run before.
     pub steps: Sequence<Shared<Step>>,
-    /// The place in the list of each step's entry, if it has one.
-    pub places: Sequence<Option<usize>>,
-    /// The tag of each step.
-    pub tags: Sequence<u64>,
-    /// The step before each for the same entry, if there is one.
-    pub previous: Sequence<Option<usize>>,
+    pub marks: Sequence<Mark>,
     /// The last of these steps for each entry, if there is one.
     pub lasts: Sequence<Option<usize>>,
     /// The earlier run's step that left each entry as it is, if there is one.
@@ -70,10 +57,8 @@ pub struct KeptSteps {
     /// run has now, so that nobody needs to compare them.
     pub in_step: bool,
     /// How often these steps and the previous run's steps from the cursor on called each built-in function, if known: a
-    /// step that moves the cursor elsewhere than to the next step forgets it.
+    /// step that moves the cursor elsewhere than to the next step forgets it. At the end of the run it is of these steps.
     pub calls: Option<Calls>,
-    /// How often all steps called each, which is known at the end of the run.
-    pub all_calls: Option<Calls>,
     /// What READ found, in this run or an earlier one.
     pub resolution: Option<KeptResolution>,
     /// Whether READ found it in this run.
@@ -83,25 +68,6 @@ pub struct KeptSteps {
     pub reuse: Reuse,
     /// What was read of other files than databases, by earlier runs and this one.
     pub readings: Readings,
-}
-
-fn is_marked(marks: &[bool], place: usize) -> bool
-    ensures { IsTrue result → slice_get marks.now place ≡ Some true }
-{
-    match marks.get(place) {
-        None => false,
-        Some(mark) => *mark,
-    }
-}
-
-/// Whether the entry at a place is known to be that of an earlier step, but for its variables.
-fn is_same_entry(places: &[Option<usize>], step: usize, place: Option<usize>, same: &[bool]) -> bool
-    ensures { IsTrue result → IsMarked places.now same.now step place }
-{
-    match (place, number_at(places, step)) {
-        (Some(place), Some(own)) => own == place && is_marked(same, place),
-        _ => false,
-    }
 }
 
 /// The earlier step that a step is, if it is one.
@@ -126,15 +92,12 @@ impl KeptSteps {
     {
         KeptSteps {
             steps: Sequence::new(alloc),
-            places: Sequence::new(alloc),
-            tags: Sequence::new(alloc),
-            previous: Sequence::new(alloc),
+            marks: Sequence::new(alloc),
             lasts: Sequence::new(alloc),
             origins: Sequence::new(alloc),
             same: Sequence::new(alloc),
             in_step: false,
             calls: None,
-            all_calls: None,
             resolution,
             is_own: false,
             is_earlier,
@@ -160,14 +123,11 @@ impl KeptSteps {
         before.nothing
     }
 
-    /// Makes room for as many steps as the earlier run has.
     fn make_room(&mut self, count: usize) -> Result<(), AllocError>
         ensures { OnOk result (self.new ≡ self.old) }
     {
         self.steps.reserve(count)?;
-        self.tags.reserve(count)?;
-        self.places.reserve(count)?;
-        self.previous.reserve(count)?;
+        self.marks.reserve(count)?;
         Ok(())
     }
 
@@ -179,37 +139,27 @@ impl KeptSteps {
         target: Target,
         place: Option<usize>,
         course: &Course,
-    ) -> Option<Again<'a>>
+    ) -> Option<Marked<'a>>
         requires placed { IsPlace place (course_world course.now) }
         requires same { AreSame command.job.earlier.now.entries course.now.entries self.now.same }
         requires given { IsTrue self.now.in_step →
             IsGivenAt command.job.earlier.now.steps self.now.reuse.next (course_world course.now) }
         requires origins { AreLast (course_world course.now) command.job.earlier.now.steps self.now.origins }
-        ensures at { IfSome result (λ again.
-            slice_get command.entry.job.earlier.now.steps self.now.reuse.next ≡ Some again.step.now) }
-        ensures tag { IfSome result (λ again.
-            slice_get command.entry.job.earlier.now.tags self.now.reuse.next ≡ Some again.tag) }
+        ensures at { IfSome result (IsMarkedAt command.entry.job.earlier.now self.now.reuse.next) }
         ensures command { IfSome result (λ again. again.step.now.command ≡ command.entry.site.now.command) }
         ensures input { IfSome result (λ again. again.step.now.input ≡ input_at target place (course_world course.now)) }
     {
-        let earlier = command.job.earlier;
-        let next = self.reuse.next;
-        let step = earlier.steps.as_slice().get(next)?;
-        let tag = *earlier.tags.as_slice().get(next)?;
+        let again = marked_at(command.job.earlier, self.reuse.next)?;
+        let Marked { step, mark } = again;
         let known = Known {
-            same: is_same_entry(earlier.places.as_slice(), next, place, self.same.as_slice()),
+            same: mark.is_same(place, self.same.as_slice()),
             given: self.in_step,
-            linked: is_linked(
-                earlier.previous.as_slice(),
-                next,
-                self.origins.as_slice(),
-                place,
-            ),
+            linked: mark.is_linked(self.origins.as_slice(), place),
         };
         if step.command == command.site.command
             && is_input(&step.input, course, target, place, known)
         {
-            return Some(Again { step, tag });
+            return Some(again);
         }
         None
     }
@@ -227,20 +177,12 @@ impl KeptSteps {
             command.entry.job.earlier.now.steps s self.old.reuse self.new.reuse) }
         ensures rest { OnOk result (self.new ≡ record self.old { reuse = self.new.reuse }) }
     {
-        let StepCommand { alloc, job, site } = command;
         // Read for the proof alone: its length fits 64 bits, so that the count of the steps that were carried out can't
         // overflow.
         let _steps = self.steps.len();
-        let Done { outcome, cost } = take_over_or_carry_out(
-            alloc,
-            job.style,
-            site.command,
-            &input,
-            job.earlier,
-            &mut self.reuse,
-        )?;
-        let made = Step::of(site.command, input, outcome, cost)?;
-        let step = Shared::new(alloc, made)?;
+        let Done { outcome, cost } = take_over_or_carry_out(command, &input, &mut self.reuse)?;
+        let made = Step::of(command.site.command, input, outcome, cost)?;
+        let step = Shared::new(command.alloc, made)?;
         Ok(step)
     }
 
@@ -271,7 +213,7 @@ impl KeptSteps {
                 let step = again.step.share()?;
                 Ok(Next {
                     step,
-                    tag: again.tag,
+                    tag: again.mark.tag,
                     shared: true,
                 })
             }
@@ -320,10 +262,10 @@ impl Recorder for KeptSteps {
             &alike,
         )?;
         drop(alike);
-        let places = no_numbers(alloc, self.steps.as_slice())?;
+        let marks = marks_of(alloc, self.steps.as_slice())?;
         let lasts = no_numbers(alloc, course.entries.as_slice())?;
         let origins = no_numbers(alloc, course.entries.as_slice())?;
-        self.places = places;
+        self.marks = marks;
         self.lasts = lasts;
         self.origins = origins;
         self.same = same;
@@ -356,9 +298,11 @@ impl Recorder for KeptSteps {
         note_last(&mut self.lasts, place, Some(own));
         note_last(&mut self.origins, place, origin_of(turn));
         self.steps.push(step)?;
-        self.previous.push(previous)?;
-        self.tags.push(tag)?;
-        self.places.push(place)?;
+        self.marks.push(Mark {
+            place,
+            tag,
+            previous,
+        })?;
         Ok(())
     }
 }

@@ -3,7 +3,7 @@
 //! Few steps change from one run to the next. So a run starts with the sums of the previous run. When a new step replaces
 //! an old one, the sums lose the old step's calls and gain the new one's. Only if steps moved are all of them added up.
 
-ghost use Rattle.std.specs.Prelude.{◌≡◌, ℕ, ◌+◌, ◌++◌, ◌<◌, [], ◌∷◌, List, slice_index_or, IfOk, IsTrue, OnOk};
+ghost use Rattle.std.specs.Prelude.{◌+◌, ◌++◌, ◌<◌, [], ◌∷◌, List, IfOk, IsTrue, OnOk};
 ghost use Rattle.std.specs.Option.{ForSome};
 ghost use Rattle.bt_run.specs.declared.course.Step.{Step as StepSeen};
 ghost use Rattle.bt_run.specs.inner.Calls.{AreCalls, AreCallsFrom, AreExchanged};
@@ -23,7 +23,6 @@ pub struct Turn {
     pub shared: bool,
 }
 
-/// Replaces one step's calls by another's.
 fn exchange_calls(
     sums: &mut Calls,
     old: &[u32; BUILTIN_COUNT],
@@ -40,26 +39,9 @@ fn exchange_calls(
     Ok(())
 }
 
-fn with_added(calls: Calls, step: &Step) -> Result<Calls, AllocError>
-    ensures { IfOk result (λ sums. (place : ℕ) → place < 37 →
-        slice_index_or sums place 0 ≡ slice_index_or calls place 0 + slice_index_or step.now.outcome.calls place 0) }
-{
-    let mut sums = calls;
-    add_calls(&mut sums, &step.outcome.calls)?;
-    Ok(sums)
-}
-
-fn with_exchanged(calls: Calls, old: &Step, new: &Step) -> Result<Calls, AllocError>
-    ensures { IfOk result (λ sums. AreExchanged calls sums old.now.outcome.calls new.now.outcome.calls) }
-{
-    let mut sums = calls;
-    exchange_calls(&mut sums, &old.outcome.calls, &new.outcome.calls)?;
-    Ok(sums)
-}
-
 /// The calls of the steps so far and of the previous run's steps from the cursor on, after one more step.
 #[tactic(auto, using(crate::proofs::TurnLemmas::calls_added, crate::proofs::TurnLemmas::calls_exchanged))]
-pub fn calls_with(
+fn calls_with(
     calls: Option<Calls>,
     earlier: &[Shared<Step>],
     turn: Turn,
@@ -68,15 +50,19 @@ pub fn calls_with(
     ensures { IfOk result (λ more. (steps : List StepSeen) → ForSome calls (AreCallsFrom earlier.now turn.from steps) →
         ForSome more (AreCallsFrom earlier.now turn.next (steps ++ step.now ∷ []))) }
 {
-    let Some(calls) = calls else {
+    let Some(mut sums) = calls else {
         return Ok(None);
     };
     if turn.next == turn.from {
-        let sums = with_added(calls, step)?;
+        add_calls(&mut sums, &step.outcome.calls)?;
         return Ok(Some(sums));
     }
     if turn.from < earlier.len() && turn.next == turn.from + 1 {
-        let sums = with_exchanged(calls, &earlier[turn.from], step)?;
+        exchange_calls(
+            &mut sums,
+            &earlier[turn.from].outcome.calls,
+            &step.outcome.calls,
+        )?;
         return Ok(Some(sums));
     }
     Ok(None)

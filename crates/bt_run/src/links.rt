@@ -1,10 +1,7 @@
-//! Which steps are for the same entry, one after another.
-//!
-//! A step is given the entry that the last step for it left. So if an entry is as an earlier step left it, the next earlier
-//! step for it was given the same, and nobody needs to compare them.
+//! The last step for each entry.
 
-ghost use Rattle.std.specs.Prelude.{◌≡◌, IfOk, IfSome, IsTrue, None, Some, map, slice_get};
-ghost use Rattle.bt_run.specs.inner.Links.{at_entry, with_last, IsLinked};
+ghost use Rattle.std.specs.Prelude.{◌≡◌, IfOk, IfSome, None, map};
+ghost use Rattle.bt_run.specs.inner.Links.{at_entry, with_last};
 
 use bt_text::Sequence;
 use std::alloc::{AllocError, Global};
@@ -20,39 +17,11 @@ pub fn no_numbers<T>(alloc: Global, values: &[T]) -> Result<Sequence<Option<usiz
     Ok(numbers)
 }
 
-/// The number at a place, if there is one.
-pub fn number_at(numbers: &[Option<usize>], place: usize) -> Option<usize>
-    ensures { IfSome result (λ n. slice_get numbers.now place ≡ Some (Some n)) }
-{
-    match numbers.get(place) {
-        None => None,
-        Some(number) => *number,
-    }
-}
-
 /// The number of the last step for an entry, if it is known.
 pub fn last_for(lasts: &[Option<usize>], place: Option<usize>) -> Option<usize>
     ensures { IfSome result (at_entry lasts.now place) }
 {
-    match place {
-        None => None,
-        Some(place) => number_at(lasts, place),
-    }
-}
-
-/// Whether an earlier step is the next one for the entry at a place, which is as the earlier run's last step left it.
-pub fn is_linked(
-    previous: &[Option<usize>],
-    step: usize,
-    origins: &[Option<usize>],
-    place: Option<usize>,
-) -> bool
-    ensures { IsTrue result → IsLinked previous.now step origins.now place }
-{
-    match (number_at(previous, step), last_for(origins, place)) {
-        (Some(link), Some(origin)) => link == origin,
-        _ => false,
-    }
+    *lasts.get(place?)?
 }
 
 /// Notes the last step for an entry.

@@ -1,6 +1,6 @@
 //! A step of an earlier run is reused if it does the same.
 
-ghost use Rattle.std.specs.Prelude.{◌≡◌, ◌+◌, ◌<◌, ◌≤◌, ◌^◌, ◌↔◌, All, Contains, Some, IsTrue, IfOk, IfSome, OnOk, MatchOption, slice_get};
+ghost use Rattle.std.specs.Prelude.{◌≡◌, ◌+◌, ◌<◌, ◌≤◌, ◌^◌, ◌↔◌, All, Contains, Some, IsTrue, IfOk, IfSome, OnOk, MatchOption, length};
 ghost use Rattle.std.specs.Option.{ForSome};
 ghost use Rattle.bt_style.specs.Program.{program_of};
 ghost use Rattle.bt_style.specs.Reach.{is_among};
@@ -8,15 +8,16 @@ ghost use Rattle.bt_machine.specs.Step.{step_in, outcome_of};
 ghost use Rattle.bt_machine.specs.AgreementLaws.{IsFootprint, IsNextOutcome, outcome_over};
 ghost use Rattle.bt_run.specs.Course.{key_in};
 ghost use Rattle.bt_run.specs.inner.Index.{IsIndex};
-ghost use Rattle.bt_run.specs.inner.Tags.{tag_of};
-ghost use Rattle.bt_run.specs.Work.{IsStep};
-ghost use Rattle.bt_run.specs.inner.Work.{IsLike, IsNoneAt, IsNone, IsMet, IsKnown, step_now, IsCounted};
+ghost use Rattle.bt_run.specs.inner.Marks.{tag_of};
+ghost use Rattle.bt_run.specs.inner.Work.{IsNoneAt, IsNone, IsMet, IsKnown, step_now, IsCounted, IsMarkedAt};
 
 use crate::course::Step;
 use crate::index::Index;
+use crate::job::Job;
 use crate::kept::Kept;
+use crate::mark::{Mark, tag_of};
 use crate::reuse::{KnownReach, Lookup, Reuse};
-use crate::tag::tag_of;
+use crate::step_command::StepCommand;
 use bt_machine::{Input, Outcome, activate, agreeing_inputs_have_one_step, agrees, left_over};
 use bt_style::{Reach, Style, Target};
 use bt_text::{Sequence, Shared};
@@ -89,9 +90,26 @@ fn reach_of(
 
 // Earlier steps
 
-/// A step that is looked for: its command, its input, and what it can reach.
+/// An earlier step and its mark.
+#[derive(Clone, Copy)]
+pub struct Marked<'a> {
+    pub step: &'a Shared<Step>,
+    pub mark: Mark,
+}
+
+/// The step at a place, with its mark.
+pub fn marked_at<'a>(earlier: &'a Kept, place: usize) -> Option<Marked<'a>>
+    ensures { IfSome result (IsMarkedAt earlier.entry.now place) }
+{
+    let step = earlier.steps.as_slice().get(place)?;
+    let mark = *earlier.marks.as_slice().get(place)?;
+    Some(Marked { step, mark })
+}
+
+/// A step that is looked for: its style, its command, its input, and what it can reach.
 #[derive(Clone, Copy)]
 struct Sought<'a> {
+    style: &'a Style,
     command: usize,
     input: &'a Input,
     reach: &'a Reach,
@@ -103,35 +121,21 @@ struct Found<'a> {
     step: &'a Step,
 }
 
-/// Whether a step is one of this command, and its input agrees with this one in what is reached.
-fn is_like(style: &Style, step: &Step, sought: Sought<'_>) -> bool
-    ensures { IsTrue result
-        ↔ IsLike sought.entry.command sought.entry.reach.now.targets sought.entry.input.now step.now }
-{
-    step.command == sought.command && agrees(style, &step.input, sought.input, sought.reach)
-}
-
 /// The step at a place, if it is one of this command and its input agrees with this one in what is reached.
-fn like_at<'a>(
-    style: &Style,
-    earlier: &'a [Shared<Step>],
-    place: usize,
-    sought: Sought<'_>,
-) -> Option<Found<'a>>
+fn like_at<'a>(earlier: &'a [Shared<Step>], place: usize, sought: Sought<'_>) -> Option<Found<'a>>
     ensures { MatchOption result (IsNoneAt sought.entry earlier.now place) (IsMet sought.entry earlier.now) }
 {
-    if place < earlier.len() {
-        let step = &earlier[place];
-        if is_like(style, step, sought) {
-            return Some(Found { place, step });
-        }
+    let step: &Step = earlier.get(place)?;
+    if step.command == sought.command
+        && agrees(sought.style, &step.input, sought.input, sought.reach)
+    {
+        return Some(Found { place, step });
     }
     None
 }
 
 /// The first step at these places that is one of this command, and whose input agrees with this one in what is reached.
 fn find_like<'a>(
-    style: &Style,
     earlier: &'a [Shared<Step>],
     places: &[usize],
     sought: Sought<'_>,
@@ -139,49 +143,36 @@ fn find_like<'a>(
     ensures { MatchOption result (All (IsNoneAt sought.entry earlier.now) places.now) (IsMet sought.entry earlier.now) }
 {
     'places: for place in places {
-        if let Some(found) = like_at(style, earlier, *place, sought) {
+        if let Some(found) = like_at(earlier, *place, sought) {
             return Some(found);
         }
     }
     None
 }
 
-fn is_other(tags: &[u64], place: usize, tag: u64) -> bool
-    ensures { IsTrue result → slice_get tags.now place ≡ Some tag → ⊥ }
-{
-    match tags.get(place) {
-        None => false,
-        Some(own) => *own != tag,
-    }
-}
-
 /// The step at a place, if it is one of this command and its input agrees with this one in what is reached. A step with
 /// another tag isn't looked at.
-fn tagged_at<'a>(
-    style: &Style,
-    earlier: &'a Kept,
-    place: usize,
-    tag: u64,
-    sought: Sought<'_>,
-) -> Option<Found<'a>>
-    requires { tag ≡ tag_of sought.command (key_in sought.input.now) }
+fn tagged_at<'a>(earlier: &'a Kept, place: usize, tag: u64, sought: Sought<'_>) -> Option<Found<'a>>
+    requires within { place < length earlier.now.marks }
+    requires tag { tag ≡ tag_of sought.command (key_in sought.input.now) }
     ensures { MatchOption result
         (IsNoneAt sought.entry earlier.entry.now.steps place) (IsMet sought.entry earlier.entry.now.steps) }
 {
-    if is_other(earlier.tags.as_slice(), place, tag) {
+    let mark = earlier.marks.as_slice()[place];
+    if mark.tag != tag {
         return None;
     }
-    like_at(style, earlier.steps.as_slice(), place, sought)
+    like_at(earlier.steps.as_slice(), place, sought)
 }
 
 /// The first step that is one of this command, and whose input agrees with this one in what is reached.
-fn find_anywhere<'a>(style: &Style, earlier: &'a Kept, sought: Sought<'_>) -> Option<Found<'a>>
+fn find_anywhere<'a>(earlier: &'a Kept, sought: Sought<'_>) -> Option<Found<'a>>
     ensures { MatchOption result
         (IsNone sought.entry earlier.entry.now.steps) (IsMet sought.entry earlier.entry.now.steps) }
 {
     let tag = tag_of(sought.command, sought.input);
-    'places: for place in 0..earlier.steps.len() {
-        if let Some(found) = tagged_at(style, earlier, place, tag, sought) {
+    'places: for place in 0..earlier.marks.len() {
+        if let Some(found) = tagged_at(earlier, place, tag, sought) {
             return Some(found);
         }
     }
@@ -207,7 +198,6 @@ fn index_of(
 /// that does, and after `SCANS` scans an index finds it.
 fn meet<'a>(
     alloc: Global,
-    style: &Style,
     earlier: &'a Kept,
     next: usize,
     sought: Sought<'_>,
@@ -219,21 +209,20 @@ fn meet<'a>(
     ensures indexed { OnOk result (ForSome lookup.new.index (IsIndex earlier.entry.now.steps)) }
 {
     let steps = earlier.steps.as_slice();
-    if let Some(found) = like_at(style, steps, next, sought) {
+    if let Some(found) = like_at(steps, next, sought) {
         return Ok(Some(found));
     }
     if lookup.scans < SCANS {
         lookup.scans += 1;
-        return Ok(find_anywhere(style, earlier, sought));
+        return Ok(find_anywhere(earlier, sought));
     }
     let made = index_of(alloc, steps, lookup.index.take())?;
     let places = made.places(sought.command, sought.input)?;
-    let met = find_like(style, steps, places, sought);
+    let met = find_like(steps, places, sought);
     lookup.index = Some(made);
     Ok(met)
 }
 
-/// Whether a step is for the same key.
 fn is_same_key(step: &Step, input: &Input) -> bool {
     match (&step.key, &input.entry) {
         (None, None) => true,
@@ -297,37 +286,38 @@ fn carry_out_step(
 
 /// What the step of an input leaves: reused if the earlier run has the step, otherwise run.
 pub fn take_over_or_carry_out(
-    alloc: Global,
-    style: &Style,
-    command: usize,
+    command: StepCommand<'_>,
     input: &Input,
-    earlier: &Kept,
     reuse: &mut Reuse,
 ) -> Result<Done, AllocError>
     requires meter { reuse.old.meter + 1000000 < 2 ^ 128 }
     requires ran { reuse.old.ran + 1 < 2 ^ 128 }
-    requires known { All (IsKnown (program_of style.now)) reuse.old.known }
-    requires indexed { ForSome reuse.old.lookup.index (IsIndex earlier.now.steps) }
-    requires steps { All (IsStep (program_of style.now)) earlier.now.steps }
-    ensures outcome { IfOk result (λ d. d.outcome ≡ outcome_of (step_in (program_of style.now) input.now)) }
-    ensures cost { IfOk result (λ d. d.cost ≡ (step_in (program_of style.now) input.now).cost) }
-    ensures known { OnOk result (All (IsKnown (program_of style.now)) reuse.new.known) }
-    ensures indexed { OnOk result (ForSome reuse.new.lookup.index (IsIndex earlier.entry.now.steps)) }
+    requires known { All (IsKnown (program_of command.job.style.now)) reuse.old.known }
+    requires indexed { ForSome reuse.old.lookup.index (IsIndex command.job.earlier.now.steps) }
+    ensures outcome { IfOk result (λ d.
+        d.outcome ≡ outcome_of (step_in (program_of command.entry.job.style.now) input.now)) }
+    ensures cost { IfOk result (λ d. d.cost ≡ (step_in (program_of command.entry.job.style.now) input.now).cost) }
+    ensures known { OnOk result (All (IsKnown (program_of command.entry.job.style.now)) reuse.new.known) }
+    ensures indexed { OnOk result (ForSome reuse.new.lookup.index (IsIndex command.entry.job.earlier.now.steps)) }
     ensures within { OnOk result (reuse.new.meter ≤ reuse.old.meter + 1000000) }
-    ensures counted { IfOk result (λ d. IsCounted (program_of style.now) earlier.entry.now.steps
-        (step_now command input.now d.outcome d.cost) reuse.old reuse.new) }
+    ensures counted { IfOk result (λ d. IsCounted (program_of command.entry.job.style.now)
+        command.entry.job.earlier.now.steps (step_now command.entry.site.now.command input.now d.outcome d.cost)
+        reuse.old reuse.new) }
 {
+    let StepCommand { alloc, job, site } = command;
+    let Job { style, earlier, .. } = job;
     // This call does nothing; the proof needs its contract, a law of the machine.
     agreeing_inputs_have_one_step();
     let known = reach_of(alloc, style, input, &mut reuse.known)?;
     let reach: &Reach = &known;
     let steps = earlier.steps.as_slice();
     let sought = Sought {
-        command,
+        style,
+        command: site.command,
         input,
         reach,
     };
-    let met = meet(alloc, style, earlier, reuse.next, sought, &mut reuse.lookup)?;
+    let met = meet(alloc, earlier, reuse.next, sought, &mut reuse.lookup)?;
     match met {
         Some(found) => {
             reuse.next = found.place + 1;

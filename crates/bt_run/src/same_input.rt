@@ -6,7 +6,7 @@ ghost use Rattle.bt_actions.specs.World.{entry_in};
 ghost use Rattle.bt_machine.specs.OwnEntry.{IsPlace};
 ghost use Rattle.bt_run.specs.Course.{course_world, input_at};
 ghost use Rattle.bt_run.specs.inner.Earlier.{fixed};
-ghost use Rattle.bt_run.specs.inner.Turn.{IsGiven};
+ghost use Rattle.bt_run.specs.inner.Turn.{IsEntered, IsGiven};
 
 use crate::course::Course;
 use crate::reused_step::is_same_place;
@@ -82,10 +82,8 @@ fn is_entered(input: &Input, course: &Course, place: Option<usize>, known: Known
     requires placed { IsPlace place (course_world course.now) }
     requires same { IsTrue known.same →
         option_map fixed input.now.entry ≡ option_map fixed (entry_in course.now.entries place) }
-    requires entry { IsTrue known.linked → input.now.entry ≡ entry_in course.now.entries place }
-    requires preamble { IsTrue known.linked → input.now.preamble ≡ course.now.preamble }
-    ensures entry { IsTrue result → input.now.entry ≡ entry_in course.now.entries place }
-    ensures preamble { IsTrue result → input.now.preamble ≡ course.now.preamble }
+    requires linked { IsTrue known.linked → IsEntered (course_world course.now) place input.now }
+    ensures { IsTrue result → IsEntered (course_world course.now) place input.now }
 {
     known.linked
         || (is_entry_at(&input.entry, course.entries.as_slice(), place, known.same)
@@ -105,8 +103,7 @@ pub fn is_input(
     requires same { IsTrue known.same →
         option_map fixed input.now.entry ≡ option_map fixed (entry_in course.now.entries place) }
     requires given { IsTrue known.given → IsGiven (course_world course.now) input.now }
-    requires entry { IsTrue known.linked → input.now.entry ≡ entry_in course.now.entries place }
-    requires preamble { IsTrue known.linked → input.now.preamble ≡ course.now.preamble }
+    requires linked { IsTrue known.linked → IsEntered (course_world course.now) place input.now }
     ensures { IsTrue result → input.now ≡ input_at target place (course_world course.now) }
 {
     input.target == target

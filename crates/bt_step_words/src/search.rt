@@ -111,8 +111,8 @@ impl<'a> Search<'a> {
     }
 
     fn run(&mut self, step: &'a Step) -> Result<Left, AllocError> {
-        let entry = match self.kept.places.as_slice().get(self.step) {
-            Some(place) => *place,
+        let entry = match self.kept.marks.as_slice().get(self.step) {
+            Some(mark) => mark.place,
             None => None,
         };
         self.give(&step.input, entry)?;

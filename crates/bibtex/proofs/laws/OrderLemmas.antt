@@ -17,7 +17,8 @@ use Rattle.bibtex.specs.Headline.{after_answer, AnswersInTurn, ReportsInTurn, af
 use Rattle.bibtex.specs.laws.Order.{AreAlike, ComeToTheSame}
 use Rattle.bt_run.proofs.laws.ByNameLemmas.{meaning_same, trace_same, style_text_same}
 use Rattle.bibtex.proofs.TextLemmas.{text_of_without}
-use Rattle.bibtex.proofs.laws.TextLemmas.{place_there, text_of_with, as_many}
+use Rattle.bibtex.proofs.TextLemmas.{text_of_with}
+use Rattle.bibtex.proofs.laws.TextLemmas.{place_there, as_many}
 use Rattle.bibtex.proofs.OrderLemmas.{once_applied}
 
 -- What is shown

@@ -1,15 +1,15 @@
 -- Look-ups in texts that differ in their order.
 use Rattle.std.proofs.Common.{◌≡◌, ◌∙◌, ap, sym, refl, ℕ, suc, Bool, true, false, cond, ◌||◌, List, [], ◌∷◌, length, map, Option, Some, None, option_map, is_some, is_none}
-use Rattle.std.specs.Prelude.{if◌then◌else◌, bytes_eq}
+use Rattle.std.specs.Prelude.{bytes_eq}
 use Rattle.std.specs.Set.{is_member}
 use Rattle.std.proofs.lemmas.Cmp.{nat_list_eq_equiv}
 use Rattle.std.proofs.lemmas.List.{length-map}
 use Rattle.std.proofs.lemmas.Map.Made.{length-from_same_keys}
 use Rattle.bt_job.specs.declared.files.File.{File}
 use Rattle.bt_job.specs.FileNames.{text_of}
-use Rattle.bibtex.specs.Present.{EachOnce, place_of_file, with_text}
+use Rattle.bibtex.specs.Present.{EachOnce, place_of_file}
 use Rattle.bt_run.specs.laws.ByName.{HaveSameTexts}
-use Rattle.bibtex.proofs.TextLemmas.{flipped, place_step, put_is, text_of_put}
+use Rattle.bibtex.proofs.TextLemmas.{flipped, place_step}
 
 -- Which file has a name
 
@@ -25,13 +25,6 @@ place_there name (f ∷ fs) = rw (place_step name f fs) (go (bytes_eq f.name nam
     go : (b : Bool) → is_none (place_of_file name fs) ≡ is_none (text_of fs name) → is_none (cond b (Some 0) (option_map suc (place_of_file name fs))) ≡ is_none (cond b (Some f.text) (text_of fs name))
     go true later = refl
     go false later = none_later (place_of_file name fs) ∙ later
-
--- Look-ups after a change
-
--- The text that was put is that of its name, and every other name has the one that it had.
-pub text_of_with : (name text : List ℕ) (files : List File) (n : List ℕ) → text_of (with_text name text files) n ≡ (if bytes_eq name n then Some text else text_of files n)
-text_of_with name text files n =
-    ap (λ fs. text_of fs n) (put_is (record { name = name; text = text }) files) ∙ text_of_put (record { name = name; text = text }) files n
 
 -- How many
 

@@ -1,5 +1,5 @@
 -- Parts of rules, for the functions and lemmas that speak of them.
-use Rattle.std.specs.Prelude.{ℕ, ◌+◌, List, [], not, Option, Some, None, Result, Ok, Err, if◌then◌else◌, ◌∷◌, ◌++◌, slice_set, take, drop, filter, unwrap_or}
+use Rattle.std.specs.Prelude.{ℕ, List, [], not, Option, Some, None, Result, Ok, Err, if◌then◌else◌, ◌∷◌, ◌++◌, slice_set, take, drop, filter, unwrap_or}
 use Rattle.std.specs.Option.{is_none}
 use Rattle.bibtex.specs.declared.edit.Refusal.{Refusal}
 use Rattle.bibtex.specs.declared.edit.Refusal.TheVariants.{BadName, NoSuchFile}

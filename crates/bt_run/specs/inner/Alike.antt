@@ -4,10 +4,8 @@ use Rattle.bt_actions.specs.declared.entry.Entry.{Entry}
 use Rattle.bt_actions.specs.World.{no_variables}
 use Rattle.bt_resolve.specs.declared.entry.Entry.{Entry as FoundEntry}
 use Rattle.bt_resolve.specs.declared.entry.Resolved.{Resolved}
-use Rattle.bt_resolve.specs.declared.question.Question.{Question}
 use Rattle.bt_resolve.specs.declared.seen_edit.SeenEdit.{SeenEdit}
 use Rattle.bt_resolve.specs.declared.seen_edit.SeenEdit.TheVariants.{Same, Others}
-use Rattle.bt_resolve.specs.inner.Kept.{resolved_for}
 use Rattle.bt_run.specs.declared.alike.Alike.{Alike}
 use Rattle.bt_run.specs.declared.alike.Alike.TheVariants.{Unknown, All, Those}
 use Rattle.bt_run.specs.inner.Earlier.{fixed_at}

@@ -1,5 +1,5 @@
 -- Parts of rules, for the functions and lemmas that speak of them.
-use Rattle.std.specs.Prelude.{ℕ, List, [], ◌∷◌, Some, None, Bool, ◌++◌, map, slice_index_or, Option, pos, flat_map, unwrap_or, Result, Ok, Err, if◌then◌else◌, ◌+◌, filter, take, count_by}
+use Rattle.std.specs.Prelude.{ℕ, List, [], ◌∷◌, Some, None, Bool, ◌++◌, map, slice_index_or, Option, pos, flat_map, unwrap_or, Result, Ok, Err, if◌then◌else◌, filter, take, count_by}
 use Rattle.bt_style.specs.declared.style.Command.{Command}
 use Rattle.bt_style.specs.Program.{Program, Definition}
 use Rattle.bt_run.specs.declared.course.Course.{Course}

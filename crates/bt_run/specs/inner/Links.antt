@@ -21,13 +21,9 @@ pub record GoesOn (s t : Step) : Type 0 where
   pub preamble : t.input.preamble ≡ s.input.preamble
 
 -- the step at one place goes on with the entry of the step at an earlier one
-pub record IsLink (steps : List Step) (k j : ℕ) : Type 0 where
+pub record IsLink (steps : List Step) (k : ℕ) (t : Step) (j : ℕ) : Type 0 where
   pub below : j < k
-  pub on : (s t : Step) → slice_get steps j ≡ Some s → slice_get steps k ≡ Some t → GoesOn s t
-
--- Where it names a step, this is the one before for the same entry.
-abbrev pub AreLinked : List Step → List (Option ℕ) → Type 0
-AreLinked steps previous = (k j : ℕ) → slice_get previous k ≡ Some (Some j) → IsLink steps k j
+  pub on : (s : Step) → slice_get steps j ≡ Some s → GoesOn s t
 
 -- the entry at a place is as the step of this number left it
 pub record IsLeftAt (w : World) (steps : List Step) (n k : ℕ) : Type 0 where
@@ -49,7 +45,7 @@ with_last None last lasts = lasts
 with_last (Some n) last lasts = slice_set lasts n last
 
 -- The earlier step is linked to the one that left the entry at this place as it is.
-pub record IsLinked (previous : List (Option ℕ)) (step : ℕ) (origins : List (Option ℕ)) (x : Option ℕ) : Type 0 where
+pub record IsLinked (previous : Option ℕ) (origins : List (Option ℕ)) (x : Option ℕ) : Type 0 where
   pub number : ℕ
-  pub link : slice_get previous step ≡ Some (Some number)
+  pub link : previous ≡ Some number
   pub origin : at_entry origins x number

@@ -1,8 +1,13 @@
 -- Steps one after another: each is given the globals and the held line that the one before it left.
-use Rattle.std.specs.Prelude.{◌≡◌, ◌+◌, ℕ, List, Some, length, slice_get}
-use Rattle.bt_actions.specs.World.{World}
+use Rattle.std.specs.Prelude.{◌≡◌, ◌+◌, ℕ, List, Option, Some, length, slice_get}
+use Rattle.bt_actions.specs.World.{World, entry_in}
 use Rattle.bt_machine.specs.declared.input.Input.{Input}
 use Rattle.bt_run.specs.declared.course.Step.{Step}
+
+-- an input has the entry at a place of a world, or none, and its preamble
+pub record IsEntered (w : World) (x : Option ℕ) (i : Input) : Type 0 where
+  pub entry : i.entry ≡ entry_in w.entries x
+  pub preamble : i.preamble ≡ w.preamble
 
 -- an input has the globals and the held line of a world
 pub record IsGiven (w : World) (i : Input) : Type 0 where

@@ -1,5 +1,5 @@
 -- What a run over earlier steps knows and keeps to.
-use Rattle.std.specs.Prelude.{◌≡◌, ◌↔◌, ◌<◌, ◌≤◌, ◌+◌, ◌*◌, ℕ, List, [], ◌∷◌, Some, None, IsTrue, false, All, Contains, length, map, slice_get}
+use Rattle.std.specs.Prelude.{◌≡◌, ◌↔◌, ◌<◌, ◌≤◌, ◌+◌, ◌*◌, ℕ, List, [], ◌∷◌, Some, None, IsTrue, false, All, Contains, length, slice_get}
 use Rattle.std.specs.Option.{ForSome}
 use Rattle.bt_style.specs.declared.style.Target.{Target}
 use Rattle.bt_style.specs.Program.{Program}
@@ -16,11 +16,12 @@ use Rattle.bt_run.specs.declared.reuse.KnownReach.{KnownReach}
 use Rattle.bt_run.specs.declared.reuse.Reuse.{Reuse}
 use Rattle.bt_run.specs.declared.reused_step.Sought.{Sought}
 use Rattle.bt_run.specs.declared.reused_step.Found.{Found}
+use Rattle.bt_run.specs.declared.reused_step.Marked.{Marked}
 use Rattle.bt_run.specs.inner.Index.{IsIndex}
-use Rattle.bt_run.specs.inner.Earlier.{ArePlaced, AreSame}
-use Rattle.bt_run.specs.inner.Tags.{step_tag}
+use Rattle.bt_run.specs.inner.Earlier.{AreSame}
+use Rattle.bt_run.specs.inner.Marks.{AreMarked, IsMark}
 use Rattle.bt_run.specs.inner.Turn.{AreInTurn, AreLeft, IsGivenAt}
-use Rattle.bt_run.specs.inner.Links.{AreLinked, AreLast}
+use Rattle.bt_run.specs.inner.Links.{AreLast}
 use Rattle.bt_run.specs.inner.Found.{AreFoundBy}
 use Rattle.bt_run.specs.inner.Calls.{AreCalls, AreCallsFrom}
 use Rattle.bt_run.specs.Work.{IsStep, work_under, total_cost}
@@ -36,6 +37,11 @@ pub record IsLike (command : ℕ) (names : List Target) (i : Input) (s : Step) :
 -- the step at a place, if there is one, is not like
 abbrev pub IsUnlikeAt : ℕ → List Target → Input → List Step → ℕ → Type 0
 IsUnlikeAt command names i steps k = (s : Step) → slice_get steps k ≡ Some s → IsLike command names i s → ⊥
+
+-- an earlier step and its mark are those at a place
+pub record IsMarkedAt (earlier : Kept) (k : ℕ) (m : Marked) : Type 0 where
+  pub at : slice_get earlier.steps k ≡ Some m.step.now
+  pub mark : IsMark earlier.entries earlier.steps k m.step.now m.mark
 
 -- Of a step that is looked for: that none at a place is like it, that no earlier one is, and that one was met which is.
 
@@ -72,45 +78,42 @@ pub record IsNext (p : Program) (earlier : List Step) (t : Step) (before after :
   pub known : All (IsKnown p) after.known
   pub indexed : ForSome after.lookup.index (IsIndex earlier)
 
--- What the steps of a run over earlier ones keep to, in the world after them: what was carried out is the work of them,
--- and costs at most a million ticks for each; they are steps of the style; what was worked out of the style is so; the
--- index, if there is one, is that of the earlier steps; what is known of entries, globals and the held line without
--- comparing them is so; and so are the tags, the calls and the links between steps for one entry; the entries are those that READ found.
+-- What was carried out is the work of steps after earlier ones, and costs at most a million ticks for each; they are
+-- steps of the style; what was worked out of the style is so; the index, if there is one, is that of the earlier steps.
+pub record IsWork (p : Program) (earlier steps : List Step) (reuse : Reuse) : Type 0 where
+  pub ran : reuse.ran ≡ length (work_under p earlier steps)
+  pub ticks : reuse.meter ≡ total_cost (work_under p earlier steps)
+  pub fewer : reuse.ran ≤ length steps
+  pub bounded : reuse.meter ≤ 1000000 * length steps
+  pub true_steps : All (IsStep p) steps
+  pub known : All (IsKnown p) reuse.known
+  pub indexed : ForSome reuse.lookup.index (IsIndex earlier)
+
+-- What the steps of a run over earlier ones keep to, in the world after them: what is known of entries, globals and the
+-- held line without comparing them is so; and so are the marks and the calls; the entries are those that READ found.
 pub record IsConsistent (p : Program) (earlier : Kept) (w : World) (s : KeptSteps) : Type 0 where
-  pub ran : s.reuse.ran ≡ length (work_under p earlier.steps s.steps)
-  pub ticks : s.reuse.meter ≡ total_cost (work_under p earlier.steps s.steps)
-  pub fewer : s.reuse.ran ≤ length s.steps
-  pub bounded : s.reuse.meter ≤ 1000000 * length s.steps
-  pub steps : All (IsStep p) s.steps
-  pub known : All (IsKnown p) s.reuse.known
-  pub indexed : ForSome s.reuse.lookup.index (IsIndex earlier.steps)
-  pub counted : length s.places ≡ length s.steps
-  pub placed : ArePlaced w.entries s.steps s.places
+  pub work : IsWork p earlier.steps s.steps s.reuse
+  pub marked : AreMarked w.entries s.steps s.marks
   pub same : AreSame earlier.entries w.entries s.same
-  pub tagged : s.tags ≡ map step_tag s.steps
   pub in_turn : AreInTurn s.steps
   pub left : AreLeft s.steps w
   pub given : IsTrue s.in_step → IsGivenAt earlier.steps s.reuse.next w
   pub called : ForSome s.calls (AreCallsFrom earlier.steps s.reuse.next s.steps)
   pub found : AreFoundBy s.is_own s.resolution w.entries
   pub found_before : AreFoundBy s.is_earlier s.resolution earlier.entries
-  pub spread : length s.previous ≡ length s.steps
-  pub linked : AreLinked s.steps s.previous
   pub lasts : AreLast w s.steps s.lasts
   pub origins : AreLast w earlier.steps s.origins
 
 -- what the next run may know of the steps of this one, whose entries these are
 pub record AreKept (entries : List Entry) (s : KeptSteps) : Type 0 where
-  pub placed : ArePlaced entries s.steps s.places
-  pub tagged : s.tags ≡ map step_tag s.steps
+  pub marked : AreMarked entries s.steps s.marks
   pub in_turn : AreInTurn s.steps
-  pub called : ForSome s.all_calls (AreCalls s.steps)
+  pub called : ForSome s.calls (AreCalls s.steps)
   pub found : AreFoundBy s.is_own s.resolution entries
-  pub linked : AreLinked s.steps s.previous
 
 -- No step was taken, and nothing is known.
 abbrev pub IsBegun : KeptSteps → Type 0
 IsBegun s =
-    (s.steps ≡ []) × (s.places ≡ []) × (s.same ≡ []) × (s.reuse.ran ≡ 0) × (s.reuse.meter ≡ 0) × (s.reuse.known ≡ [])
-    × (s.reuse.lookup.index ≡ None) × (s.tags ≡ []) × (s.in_step ≡ false) × (s.reuse.next ≡ 0) × (s.all_calls ≡ None)
-    × (s.is_own ≡ false) × (s.previous ≡ []) × (s.lasts ≡ []) × (s.origins ≡ [])
+    (s.steps ≡ []) × (s.marks ≡ []) × (s.same ≡ []) × (s.reuse.ran ≡ 0) × (s.reuse.meter ≡ 0) × (s.reuse.known ≡ [])
+    × (s.reuse.lookup.index ≡ None) × (s.in_step ≡ false) × (s.reuse.next ≡ 0) × (s.calls ≡ None)
+    × (s.is_own ≡ false) × (s.lasts ≡ []) × (s.origins ≡ [])

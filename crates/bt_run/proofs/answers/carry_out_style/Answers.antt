@@ -1,4 +1,4 @@
-use Rattle.std.proofs.Common.{◌∙◌, ap, refl, sym, subst, List, ℕ, Option, Some}
+use Rattle.std.proofs.Common.{◌∙◌, ap, refl, sym, subst, List}
 use Rattle.std.specs.Option.{ForSome}
 use Rattle.bt_style.specs.Program.{program_of}
 use Rattle.bt_run.specs.declared.course.Step.{Step}
@@ -7,7 +7,7 @@ use Rattle.bt_run.specs.Course.{course_world}
 use Rattle.bt_run.specs.Meaning.{first_globals, run_begun}
 use Rattle.bt_run.specs.inner.Calls.{AreCalls, AreCallsFrom}
 use Rattle.bt_run.specs.inner.JobView.{job_of}
-use Rattle.bt_run.proofs.AnswerLemmas.{begun_consistent, carried_by, kept_with, with_calls}
+use Rattle.bt_run.proofs.AnswerLemmas.{begun_consistent, carried_by, kept_with}
 use Rattle.bt_run.proofs.answers.carry_out_style.Goals as goal
 
 pub run_style-requires : goal.run_style-requires
@@ -27,9 +27,8 @@ returns-clause-run c =
     carried_by (job_of c.args.job) c.args.log c.tell_counts.new.log c.in_ok-course.course c.args.steps.now.steps c.run_style.new.recorder.steps c.in_ok-calls.calls
     c.requires.begun.0 c.in_ok-course.ensures.run (λ place lt. c.in_ok-calls.ensures place lt ∙ ap (λ ss. calls_at ss place) c.as_slice.ensures) c.in_ok-tell_counts.ensures
 
-pub returns-clause-consistent : goal.returns-clause-consistent
-returns-clause-consistent c =
-    with_calls (program_of c.args.job.style.now) c.args.job.earlier.now (course_world c.in_ok-course.course) c.run_style.new.recorder (Some c.in_ok-calls.calls) c.in_ok-course.ensures.ready
+pub returns-clause-work : goal.returns-clause-work
+returns-clause-work c = c.in_ok-course.ensures.ready.work
 
 pub returns-clause-kept : goal.returns-clause-kept
 returns-clause-kept c =

@@ -1,6 +1,5 @@
 use Rattle.std.proofs.Common.{◌∙◌, ap}
 use Rattle.bt_style.specs.Program.{program_of}
-use Rattle.bt_run.specs.Course.{course_world}
 use Rattle.bt_run.specs.inner.Steps.{steps_under}
 use Rattle.bt_run.proofs.AnswerLemmas.{lent_style, earlier_steps, nothing_taken, run_taken}
 use Rattle.bt_run.proofs.answers.run_with.Goals as goal
@@ -26,8 +25,8 @@ returns-in_ok-course-in-Ok-clause-taken c =
     let read = lent_style c.in_ok-text.text c.in-Ok.style style c.in-Ok.ensures c.deref-in-Ok.ensures in
     let is = c.as_slice-bytes.ensures ∙ c.deref.ensures in
     rw c.new-in-Ok.ensures.text
-    (run_taken (program_of style) k.text k.steps c.in_ok-text.text c.earlier_under-earlier.result.now (course_world c.in_ok-course-in-Ok.course) c.carry_out_style.new.steps
-    read (c.earlier_under-earlier.ensures.steps ∙ ap (steps_under k.text k.steps) is) c.in_ok-course-in-Ok.ensures.consistent)
+    (run_taken (program_of style) k.text k.steps c.in_ok-text.text c.earlier_under-earlier.result.now.steps c.carry_out_style.new.steps.steps c.carry_out_style.new.steps.reuse
+    read (c.earlier_under-earlier.ensures.steps ∙ ap (steps_under k.text k.steps) is) c.in_ok-course-in-Ok.ensures.work)
 
 pub returns-in_ok-course-in-Err-Fault-clause-taken : goal.returns-in_ok-course-in-Err-Fault-clause-taken
 returns-in_ok-course-in-Err-Fault-clause-taken c = nothing_taken c.args.before.kept.now.text c.args.before.kept.now.steps c.new-in-Err-Fault.result.text c.args.steps.now c.requires.begun

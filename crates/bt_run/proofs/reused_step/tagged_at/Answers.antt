@@ -1,11 +1,12 @@
-use Rattle.std.specs.Prelude.{slice_get}
-use Rattle.std.proofs.Common.{◌∙◌, ap, sym, ℕ, List}
-use Rattle.bt_run.proofs.IndexLemmas.{like_tag, tagged_like}
+use Rattle.std.proofs.Common.{None, arith}
+use Rattle.bt_run.specs.declared.mark.Mark.{Mark}
+use Rattle.bt_run.proofs.IndexLemmas.{other_tag}
 use Rattle.bt_run.proofs.reused_step.tagged_at.Goals as goal
 
-pub returns-then-is_other : goal.returns-then-is_other
-returns-then-is_other c = λ s at like.
+pub returns-then-mark-tag : goal.returns-then-mark-tag
+returns-then-mark-tag c =
     let earlier = c.args.earlier.now in
     let sought = c.args.sought in
-    c.is_other.ensures c.if-is_other.true
-    (ap (λ (ts : List ℕ). slice_get ts c.args.place) c.as_slice.ensures ∙ tagged_like earlier.steps earlier.tags c.args.place s c.args.tag earlier.tagged at (like_tag sought.command sought.reach.now.targets sought.input.now s like ∙ sym c.requires))
+    let none : Mark = record { place = None; tag = 0; previous = None } in
+    other_tag earlier.entries earlier.steps earlier.marks c.as_slice.result.now c.args.place none sought.command sought.reach.now.targets sought.input.now
+    earlier.marked c.as_slice.ensures c.requires.within (λ e. absurd (omega (arith, e, c.requires.tag, c.if-mark-tag.true)))

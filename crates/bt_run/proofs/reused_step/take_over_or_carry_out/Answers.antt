@@ -10,27 +10,27 @@ use Rattle.bt_run.proofs.reused_step.take_over_or_carry_out.Goals as goal
 
 pub take_over-requires : goal.take_over-requires
 take_over-requires c =
-    let p = program_of c.args.style.now in
+    let p = program_of c.args.command.job.style.now in
     let met = met_some _ _ c.in_ok-met.met c.in-Some.found c.in-Some.is c.in_ok-met.ensures.met in
     let step = c.in-Some.found.step.now in
-    let own : IsStep p step = true_step p c.args.earlier.now.steps step c.requires.steps met.1 in
+    let own : IsStep p step = true_step p c.args.command.job.earlier.now.steps step c.args.command.job.steps met.1 in
     let reached = subst (λ (r : Reach). IsFootprint p c.args.input.now r.targets) (sym c.deref-reach.ensures) c.in_ok-known.ensures.reach in
     earlier_rest p c.deref-reach.result.now.targets step.input c.args.input.now step.outcome (own_outcome p step own) reached met.2.agree
 
 pub returns-in-Some-clause-outcome : goal.returns-in-Some-clause-outcome
 returns-in-Some-clause-outcome c =
-    let p = program_of c.args.style.now in
+    let p = program_of c.args.command.job.style.now in
     let met = met_some _ _ c.in_ok-met.met c.in-Some.found c.in-Some.is c.in_ok-met.ensures.met in
-    let own : IsStep p c.in-Some.found.step.now = true_step p c.args.earlier.now.steps c.in-Some.found.step.now c.requires.steps met.1 in
+    let own : IsStep p c.in-Some.found.step.now = true_step p c.args.command.job.earlier.now.steps c.in-Some.found.step.now c.args.command.job.steps met.1 in
     let reached = subst (λ (r : Reach). IsFootprint p c.args.input.now r.targets) (sym c.deref-reach.ensures) c.in_ok-known.ensures.reach in
     c.in_ok-taken-in-Some.ensures.outcome p (own_outcome p c.in-Some.found.step.now own) reached met.2.agree
 
 pub returns-in-Some-clause-cost : goal.returns-in-Some-clause-cost
 returns-in-Some-clause-cost c =
-    let p = program_of c.args.style.now in
+    let p = program_of c.args.command.job.style.now in
     let met = met_some _ _ c.in_ok-met.met c.in-Some.found c.in-Some.is c.in_ok-met.ensures.met in
     let step = c.in-Some.found.step.now in
-    let own : IsStep p step = true_step p c.args.earlier.now.steps step c.requires.steps met.1 in
+    let own : IsStep p step = true_step p c.args.command.job.earlier.now.steps step c.args.command.job.steps met.1 in
     let reached = subst (λ (r : Reach). IsFootprint p c.args.input.now r.targets) (sym c.deref-reach.ensures) c.in_ok-known.ensures.reach in
     taken_cost p c.deref-reach.result.now.targets c.args.input.now step c.in_ok-taken-in-Some.taken.cost (c.agreeing_inputs_have_one_step.ensures p) reached own met.2.agree c.in_ok-taken-in-Some.ensures.cost
 
@@ -38,12 +38,12 @@ pub returns-in-Some-clause-counted : goal.returns-in-Some-clause-counted
 returns-in-Some-clause-counted c =
     let met = met_some _ _ c.in_ok-met.met c.in-Some.found c.in-Some.is c.in_ok-met.ensures.met in
     let d = c.in_ok-taken-in-Some.taken in
-    taken_counted (program_of c.args.style.now) c.args.earlier.now.steps c.args.command c.deref-reach.result.now.targets c.args.input.now c.in-Some.found.step.now d.outcome d.cost c.args.reuse.now (record c.args.reuse.now { next = c.in-Some.found.place + 1; lookup = c.meet.new.lookup; known = c.reach_of.new.known })
-    (subst (λ (r : Reach). IsFootprint (program_of c.args.style.now) c.args.input.now r.targets) (sym c.deref-reach.ensures) c.in_ok-known.ensures.reach) c.requires.steps met.1 met.2 refl refl
+    taken_counted (program_of c.args.command.job.style.now) c.args.command.job.earlier.now.steps c.args.command.site.now.command c.deref-reach.result.now.targets c.args.input.now c.in-Some.found.step.now d.outcome d.cost c.args.reuse.now (record c.args.reuse.now { next = c.in-Some.found.place + 1; lookup = c.meet.new.lookup; known = c.reach_of.new.known })
+    (subst (λ (r : Reach). IsFootprint (program_of c.args.command.job.style.now) c.args.input.now r.targets) (sym c.deref-reach.ensures) c.in_ok-known.ensures.reach) c.args.command.job.steps met.1 met.2 refl refl
 
 pub returns-clause-counted : goal.returns-clause-counted
 returns-clause-counted c =
     let none = met_none _ _ c.in_ok-met.met c.in-None.is c.in_ok-met.ensures.met in
     let d = c.in_ok-ran-in-None.ran in
-    ran_counted (program_of c.args.style.now) c.args.earlier.now.steps c.args.command c.deref-reach.result.now.targets c.args.input.now d.outcome d.cost c.args.reuse.now c.carry_out_step.new.reuse
-    (subst (λ (r : Reach). IsFootprint (program_of c.args.style.now) c.args.input.now r.targets) (sym c.deref-reach.ensures) c.in_ok-known.ensures.reach) none c.in_ok-ran-in-None.ensures.ran (c.in_ok-ran-in-None.ensures.ticks ∙ ap (λ n. c.args.reuse.now.meter + n) (sym c.in_ok-ran-in-None.ensures.cost))
+    ran_counted (program_of c.args.command.job.style.now) c.args.command.job.earlier.now.steps c.args.command.site.now.command c.deref-reach.result.now.targets c.args.input.now d.outcome d.cost c.args.reuse.now c.carry_out_step.new.reuse
+    (subst (λ (r : Reach). IsFootprint (program_of c.args.command.job.style.now) c.args.input.now r.targets) (sym c.deref-reach.ensures) c.in_ok-known.ensures.reach) none c.in_ok-ran-in-None.ensures.ran (c.in_ok-ran-in-None.ensures.ticks ∙ ap (λ n. c.args.reuse.now.meter + n) (sym c.in_ok-ran-in-None.ensures.cost))

@@ -1,19 +1,21 @@
-use Rattle.std.proofs.Common.{◌∙◌, ap, sym, subst, map, Option, None}
-use Rattle.std.specs.Option.{ForSome}
+use Rattle.std.proofs.Common.{◌∙◌, ap, sym, map}
 use Rattle.bt_bib.specs.BibText.{pieces_of}
 use Rattle.bt_resolve.specs.declared.question.Question.{Question}
-use Rattle.bt_run.specs.declared.database_edit.DatabaseEdit.{DatabaseEdit}
-use Rattle.bt_run.specs.inner.Edits.{IsEditAmong}
 use Rattle.bt_run.proofs.FindingLemmas.{put_texts, within_texts}
 use Rattle.bt_run.proofs.kept_resolution.KeptResolution.put.Goals as goal
 
+pub put-requires : goal.put-requires
+put-requires c = c.args.self.now.edited c.in-Some.edit (sym c.take.ensures.value ∙ c.in-Some.is) c.in-Some-made.made c.in-Some-made.is
+
 pub set-requires : goal.set-requires
-set-requires c = within_texts c.args.self.now.resolution c.args.self.now.texts c.args.edit.number c.args.self.now.read c.requires.edit.database
+set-requires c =
+    let kept = c.args.self.now in
+    within_texts kept.resolution kept.texts c.in-Some.edit.number kept.read
+    (kept.edited c.in-Some.edit (sym c.take.ensures.value ∙ c.in-Some.is) c.in-Some-made.made c.in-Some-made.is).database
 
-pub returns : goal.returns
-returns c = put_texts c.args.self.now.resolution c.put.new.self c.args.self.now.texts c.args.edit.number c.args.edit.text c.args.edit.items c.args.self.now.read c.args.edit.read c.put.ensures
-
-pub invariant_of-self-clause-read : goal.invariant_of-self-clause-read
-invariant_of-self-clause-read c =
-    ap (λ (q : Question). q.databases) (put_texts c.args.self.now.resolution c.put.new.self c.args.self.now.texts c.args.edit.number c.args.edit.text c.args.edit.items c.args.self.now.read c.args.edit.read c.put.ensures)
+pub invariant_of-self-2-clause-read : goal.invariant_of-self-2-clause-read
+invariant_of-self-2-clause-read c =
+    let kept = c.args.self.now in
+    let edit = c.in-Some.edit in
+    ap (λ (q : Question). q.databases) (put_texts kept.resolution c.put.new.self kept.texts edit.number edit.text edit.items kept.read edit.read c.put.ensures)
     ∙ ap (map pieces_of) (sym c.set.ensures)

@@ -45,21 +45,19 @@ returns-clause-ready c =
     let links : Links = record {
       link = c.last_for-previous.result;
       origin = c.origin_of.result;
-      previous = c.push-2.new.self;
       lasts = c.note_last.new.lasts;
       origins = c.note_last-2.new.lasts;
     } in
     let more : AreMore c.args.place c.args.self.now c.next_step.new.self taken.shared links = record {
       link = subst (λ (ls : List (Option ℕ)). IfSome c.last_for-previous.result (at_entry ls c.args.place)) c.as_slice.ensures c.last_for-previous.ensures;
       origin = c.origin_of.ensures;
-      previous = c.in_ok-push-2.ensures.ok;
       lasts = c.note_last.ensures ∙ ap (λ n. with_last c.args.place (Some n) c.next_step.new.self.lasts) c.len-own.ensures;
       origins = c.note_last-2.ensures;
     } in
     consistent_behind (program_of c.args.command.job.style.now) earlier site c.args.target c.args.place c.args.course.now c.put_back.new.course taken.step taken.tag taken.shared
-    c.args.self.now c.next_step.new.self c.push.new.self c.push-3.new.self c.push-4.new.self c.count_step.new.calls links
+    c.args.self.now c.next_step.new.self c.push.new.self c.push-2.new.self c.count_step.new.calls links
     c.requires.ready c.requires.placed more c.in_ok-step.ensures.input (c.in_ok-put_back.ensures ∙ ap (λ (t : Step). put_back site c.args.place t.outcome c.args.course.now) c.deref.ensures)
-    c.in_ok-step.ensures.rest c.in_ok-push.ensures.ok c.in_ok-push-3.ensures.ok c.in_ok-push-4.ensures.ok c.in_ok-step.ensures.tag c.in_ok-step.ensures.shared called c.in_ok-step.ensures.next
+    c.in_ok-step.ensures.rest c.in_ok-push.ensures.ok c.in_ok-push-2.ensures.ok c.in_ok-step.ensures.tag c.in_ok-step.ensures.shared called c.in_ok-step.ensures.next
 
 pub returns-clause-ordered : goal.returns-clause-ordered
 returns-clause-ordered c = ordered_back c.args.command.site.now c.args.place c.deref.result.now.outcome c.args.course.now c.put_back.new.course c.in_ok-put_back.ensures c.requires.ordered

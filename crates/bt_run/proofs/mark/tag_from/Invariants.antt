@@ -1,6 +1,6 @@
 use Rattle.std.proofs.Common.{◌≡◌, ◌<◌, drop}
-use Rattle.bt_run.specs.inner.Tags.{tag_from}
-use Rattle.bt_run.proofs.tag.tag_from.Given as goal
+use Rattle.bt_run.specs.inner.Marks.{tag_from}
+use Rattle.bt_run.proofs.mark.tag_from.Given as goal
 
 -- the bytes that are left give the whole
 abbrev pub invariant-bytes : goal.invariant-bytes
