@@ -17,7 +17,7 @@ use Rattle.bt_mentions.specs.Databases.{part}
 use Rattle.bt_answers.specs.declared.references.Wanted.{Wanted}
 use Rattle.bt_answers.specs.declared.references.Wanted.TheVariants.{Definitions}
 use Rattle.bt_answers.specs.declared.hints.Names.TheVariants.{Entries, Asked}
-use Rattle.bt_answers.specs.Hints.{is_small, collected, missing_hint, unused_hint, is_missing_at, is_unused_at, with_missing, with_unused, asks_all, with_missing_among, with_missing_if_any, with_all_missing, with_unused_beside, with_unused_if_any, with_all_unused, with_hints}
+use Rattle.bt_answers.specs.Hints.{is_small, names_in, missing_hint, unused_hint, is_missing_at, is_unused_at, with_missing, with_unused, asks_all, with_missing_among, with_missing_if_any, with_all_missing, with_unused_beside, with_unused_if_any, with_all_unused, with_hints}
 use Rattle.bt_log.specs.declared.message.Message.{Message}
 use Rattle.bt_places.specs.Shown.{Shown}
 use Rattle.bt_answers.specs.Faults.{faulty_file, any_fault, linked_name, fault_words, fault_value, with_fault, with_faults_at, with_faults}
@@ -30,10 +30,10 @@ use Rattle.bt_mentions.specs.Links.{links}
 use Rattle.bt_answers.specs.Links.{full_name, is_plain_byte, folder, folder_before, ends_with, link_to, with_link_to, with_file, with_named, with_kind, with_link, links_of}
 use Rattle.bt_edited.specs.declared.edits.Edit.{Edit}
 use Rattle.bt_edited.specs.declared.changes.Change.TheVariants.{Nothing}
-use Rattle.bt_edited.specs.Edits.{edited}
+use Rattle.bt_edited.specs.Edits.{text_after_edits}
 use Rattle.bt_edited.specs.Becomes.{is_made}
 use Rattle.bt_answers.specs.EditValues.{edit_value, edit_values}
-use Rattle.bt_answers.specs.Formatting.{layout_edits, if_kept, formatted}
+use Rattle.bt_answers.specs.Formatting.{layout_edits, if_kept, format_edits}
 use Rattle.bt_answers.specs.Folding.{fold_of, folds_in, folds_of}
 use Rattle.bt_shapes.proofs.PlainLists.{all_mapped, more_plain, fold_between_plain}
 use Rattle.bt_places.specs.Mentioning.{is_key}
@@ -43,7 +43,7 @@ use Rattle.bt_style_answers.specs.declared.references.Lent.TheVariants as lent
 use Rattle.bt_style_answers.specs.References.{with_declaration}
 use Rattle.bt_style_answers.proofs.PlainLemmas.{declaration_plain}
 use Rattle.bt_answers.specs.Lending.{with_lent}
-use Rattle.bt_answers.specs.Renaming.{file_edit, with_file_edit, with_renamed, name_edits, are_renamed, can_be_named, is_free, is_defined, is_named, renamed, renamed_if_free, renamed_of, range_if_defined, mention_range}
+use Rattle.bt_answers.specs.Renaming.{file_edit, with_file_edit, with_renamed, name_edits, are_renamed, can_be_named, is_free, is_defined, is_named, rename_edit, renamed_if_free, renamed_of, range_if_defined, mention_range}
 use Rattle.bt_answers.specs.Symbols.{query_of, is_symbol, symbol_at, with_symbol, with_symbols, symbols}
 use Rattle.bt_places.specs.Shapes.{location, range_of}
 use Rattle.bt_places.specs.Visiting.{with_files, with_texts, is_any}
@@ -96,7 +96,7 @@ added_edits_plain : (units : List ℕ → Counting) (wanted : Wanted) (old new :
 added_edits_plain units wanted old new list uri text p =
     (let edits = name_edits units wanted old new uri text in edits_plain list uri (edit_values edits) p (all_mapped edit_value (λ e. refl) edits))
 
-all_edits_plain : (files : List (List ℕ × List ℕ)) (docs : List Document) (c : Counting) (wanted : Wanted) (old new : List ℕ) → has_float (renamed files docs c wanted old new) ≡ false
+all_edits_plain : (files : List (List ℕ × List ℕ)) (docs : List Document) (c : Counting) (wanted : Wanted) (old new : List ℕ) → has_float (rename_edit files docs c wanted old new) ≡ false
 all_edits_plain files docs c wanted old new =
     let add = with_renamed (counting_in c docs) wanted old new in
     let step = added_edits_plain (counting_in c docs) wanted old new in
@@ -104,7 +104,7 @@ all_edits_plain files docs c wanted old new =
 
 free_plain : (files : List (List ℕ × List ℕ)) (docs : List Document) (c : Counting) (wanted : Wanted) (old new : List ℕ) → IsPlainData (renamed_if_free files docs c wanted old new)
 free_plain files docs c wanted old new =
-    let all = renamed files docs c wanted old new in
+    let all = rename_edit files docs c wanted old new in
     let exact = if not (are_renamed files docs c wanted old new) then Err InexactRename else Ok all in
     let defined = if not (is_defined files docs c wanted old) then Err UndefinedMacro else exact in
     let free = if not (is_free files docs c wanted old new) then Err TakenName else defined in
@@ -154,10 +154,10 @@ folds_plain d =
 
 kept_plain : (d : Document) (ps : List PlacedPiece) (es : List Edit) → has_float (if_kept d ps es) ≡ false
 kept_plain d ps es =
-    one_plain (is_made Nothing ps (edited d.counting es d.text)) (array (items_of (edit_values es))) null (items_plain (edit_values es) (all_mapped edit_value (λ e. refl) es)) refl
+    one_plain (is_made Nothing ps (text_after_edits d.counting es d.text)) (array (items_of (edit_values es))) null (items_plain (edit_values es) (all_mapped edit_value (λ e. refl) es)) refl
 
-pub formatted_plain : (d : Document) (m : Data) → has_float (formatted d m) ≡ false
-formatted_plain d m =
+pub format_edits_plain : (d : Document) (m : Data) → has_float (format_edits d m) ≡ false
+format_edits_plain d m =
     none_or (not (is_database d.name) || nat_lt 1073741824 (length d.text)) (if_kept d (pieces_of d.text) (layout_edits d m)) (kept_plain d (pieces_of d.text) (layout_edits d m))
 
 -- ---- hints
@@ -183,8 +183,8 @@ pub hints_plain : (files : List (List ℕ × List ℕ)) (d : Document) (list : L
 hints_plain files d list p =
     let database = if is_database d.name && d.in_step then with_all_unused files d list else list in
     either_plain (is_small files) (if is_tex d.name then with_all_missing files d list else database) list
-    (either_plain (is_tex d.name) (with_all_missing files d list) database (missing_plain (collected Entries files) d list p)
-    (either_plain (is_database d.name && d.in_step) (with_all_unused files d list) list (unused_plain (collected Asked files) d list p) p)) p
+    (either_plain (is_tex d.name) (with_all_missing files d list) database (missing_plain (names_in Entries files) d list p)
+    (either_plain (is_database d.name && d.in_step) (with_all_unused files d list) list (unused_plain (names_in Asked files) d list p) p)) p
 
 -- ---- links
 

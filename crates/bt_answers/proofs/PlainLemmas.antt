@@ -15,7 +15,7 @@ use Rattle.bt_remarks.specs.declared.lens.Origin.{Origin}
 use Rattle.bt_remarks.specs.declared.lens.FileLine.{FileLine}
 use Rattle.bt_answers.specs.Lensing.{line_or_null, origin_value}
 use Rattle.bt_places.specs.Shapes.{diagnostic}
-use Rattle.bt_answers.specs.Related.{diagnostic_from, place_of_entry, begins_before, related_in, related, diagnostics_in}
+use Rattle.bt_answers.specs.Related.{diagnostic_from, place_of_entry, begins_before, related_in, related_value, diagnostics_in}
 use Rattle.bt_positions.specs.Positions.{offset_of}
 use Rattle.bt_places.specs.Shown.{Shown}
 use Rattle.bt_places.specs.Hover.{key_at, trimmed_start, hover_at}
@@ -37,8 +37,8 @@ related_in_plain d f (Some p) = one_plain (begins_before d f p) (diagnostic_from
 pub diagnostics_in_plain : (relates : Bool) (d : Document) (fs : List Diagnostic) → AllByRecursion HasNoFloat (diagnostics_in relates d fs)
 diagnostics_in_plain relates d [] = tt
 diagnostics_in_plain relates d (f ∷ fs) =
-    either_plain (not relates || not (is_database d.name) || nat_lt 1073741824 (length d.text)) (map diagnostic (f ∷ fs)) (map (related d (pieces_of d.text)) (f ∷ fs))
-    (diagnostics_plain (f ∷ fs)) (all_mapped (related d (pieces_of d.text)) (λ x. related_in_plain d x (item_around (offset_of d.counting x.from d.text) (pieces_of d.text))) (f ∷ fs))
+    either_plain (not relates || not (is_database d.name) || nat_lt 1073741824 (length d.text)) (map diagnostic (f ∷ fs)) (map (related_value d (pieces_of d.text)) (f ∷ fs))
+    (diagnostics_plain (f ∷ fs)) (all_mapped (related_value d (pieces_of d.text)) (λ x. related_in_plain d x (item_around (offset_of d.counting x.from d.text) (pieces_of d.text))) (f ∷ fs))
 
 symbol_plain : (c : Counting) (words : List ℕ) (kind from to : ℕ) (name : List ℕ) → AllByRecursion HasNoFloat (cons_option (symbol_at c words kind from to name) [])
 symbol_plain c words kind from to [] = tt

@@ -20,7 +20,7 @@ use Rattle.bt_places.specs.Parameters.{position_at}
 use Rattle.bt_places.specs.Entries.{is_database}
 use Rattle.bt_edited.specs.declared.edits.Edit.{Edit}
 use Rattle.bt_edited.specs.declared.changes.Change.TheVariants.{Nothing}
-use Rattle.bt_edited.specs.Edits.{edit_of, edited}
+use Rattle.bt_edited.specs.Edits.{edit_of, text_after_edits}
 use Rattle.bt_edited.specs.Becomes.{is_made}
 use Rattle.bt_answers.specs.EditValues.{edit_values}
 
@@ -79,10 +79,10 @@ layout_edits d m =
 -- edits as a value, if a document with these pieces has the same after the edits
 abbrev pub if_kept : Document → List PlacedPiece → List Edit → Data
 if_kept d ps es =
-    if is_made Nothing ps (edited d.counting es d.text) then array (items_of (edit_values es)) else null
+    if is_made Nothing ps (text_after_edits d.counting es d.text) then array (items_of (edit_values es)) else null
 
 -- The edits, if the document is a database of at most 1 GiB, and has the same items after them.
-abbrev pub formatted : Document → Data → Data
-formatted d m =
+abbrev pub format_edits : Document → Data → Data
+format_edits d m =
     if not (is_database d.name) || nat_lt 1073741824 (length d.text) then null
     else if_kept d (pieces_of d.text) (layout_edits d m)

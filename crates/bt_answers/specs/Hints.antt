@@ -71,8 +71,8 @@ with_all_names asked names files =
     fold (λ (ns : List (List ℕ)) (f : List ℕ × List ℕ). with_file_names asked ns f.0 f.1) names files
 
 -- the names in files, of which no two match
-abbrev pub collected : Names → List (List ℕ × List ℕ) → List (List ℕ)
-collected asked files = with_all_names asked [] files
+abbrev pub names_in : Names → List (List ℕ × List ℕ) → List (List ℕ)
+names_in asked files = with_all_names asked [] files
 
 -- a citation of a key that no entry has
 abbrev pub missing_hint : Data → Data
@@ -131,7 +131,7 @@ with_missing_if_any (k ∷ known) d list = with_missing_among (k ∷ known) d li
 
 -- a list with the hints for the missing keys of a text of LaTeX
 abbrev pub with_all_missing : List (List ℕ × List ℕ) → Document → List Data → List Data
-with_all_missing files d list = with_missing_if_any (collected Entries files) d list
+with_all_missing files d list = with_missing_if_any (names_in Entries files) d list
 
 -- whether names say nothing of what isn't asked for: there are none, or one is `*`
 abbrev pub asks_all : List (List ℕ) → Bool
@@ -148,7 +148,7 @@ with_unused_if_any asked d list = if asks_all asked then list else with_unused_b
 
 -- a list with the hints for the entries of a database that nothing asks for
 abbrev pub with_all_unused : List (List ℕ × List ℕ) → Document → List Data → List Data
-with_all_unused files d list = with_unused_if_any (collected Asked files) d list
+with_all_unused files d list = with_unused_if_any (names_in Asked files) d list
 
 -- A list with the hints for a document, if the files have at most 256 KiB together: for a text of LaTeX the citations of
 -- missing keys, for a database of the run the entries that nothing cites.

@@ -14,13 +14,13 @@ line_range line =
     let at : Position = record { line = line; character = 0 } in range at at
 
 -- words over a range, which run no command
-abbrev pub titled : Data → List ℕ → Data
-titled over words =
+abbrev pub lens_object : Data → List ℕ → Data
+lens_object over words =
     object (member (codes "command") (object (member (codes "command") (string (codes "")) (member (codes "title") (text words) no_members)))
     (member (codes "range") over no_members))
 
 abbrev pub lens_value : Lens → Data
-lens_value lens = titled (line_range lens.line) lens.words
+lens_value lens = lens_object (line_range lens.line) lens.words
 
 -- what stands over lines of a document
 abbrev pub lens_values : List Lens → Data

@@ -1,7 +1,6 @@
 -- Where the entry of a diagnostic begins.
-use Rattle.std.specs.Prelude.{ℕ, min, nat_le, nat_lt, Bool, false, ◌||◌, not, if◌then◌else◌, List, [], ◌∷◌, map, length, codes, Option, Some, None, unwrap_or, option_and_then}
+use Rattle.std.specs.Prelude.{ℕ, min, nat_le, nat_lt, Bool, false, ◌||◌, not, if◌then◌else◌, List, [], ◌∷◌, map, length, codes, Option, Some, None, unwrap_or}
 use Rattle.serde_json.specs.Data.{Data, number, unsigned, string, array, item, no_items, object, member, no_members}
-use Rattle.serde_json.specs.Find.{pointer, as_bool}
 use Rattle.bt_bib.specs.BibText.{pieces_of}
 use Rattle.bt_bib.specs.declared.placed_pieces.PlacedPiece.{PlacedPiece}
 use Rattle.bt_positions.specs.Positions.{position_of, offset_of}
@@ -10,12 +9,13 @@ use Rattle.bt_diagnostics.specs.declared.diagnostic.Diagnostic.{Diagnostic}
 use Rattle.bt_mentions.specs.declared.mention.Mention.{Mention}
 use Rattle.bt_mentions.specs.Databases.{with_piece}
 use Rattle.bt_places.specs.Entries.{is_database, item_around}
+use Rattle.bt_places.specs.Parameters.{flag_at}
 use Rattle.bt_places.specs.Shapes.{text, range, range_of, location, diagnostic}
 
 -- whether an editor shows places related to a diagnostic, as it says in `initialize`
 abbrev pub shows_related : Data → Bool
 shows_related m =
-    unwrap_or (option_and_then as_bool (pointer (codes "/params/capabilities/textDocument/publishDiagnostics/relatedInformation") m)) false
+    unwrap_or (flag_at (codes "/params/capabilities/textDocument/publishDiagnostics/relatedInformation") m) false
 
 -- the place where an entry begins
 abbrev pub beginning : Data → Data
@@ -57,14 +57,14 @@ first_around place [] = None
 first_around place (p ∷ ps) = if nat_le p.start.place place then Some p else None
 
 -- a diagnostic in a document that consists of these pieces
-abbrev pub related : Document → List PlacedPiece → Diagnostic → Data
-related d pieces f = related_in d f (item_around (offset_of d.counting f.from d.text) pieces)
+abbrev pub related_value : Document → List PlacedPiece → Diagnostic → Data
+related_value d pieces f = related_in d f (item_around (offset_of d.counting f.from d.text) pieces)
 
 -- diagnostics of a document, each in a database with the place where its entry begins if the editor shows such places
 abbrev pub with_beginnings : Bool → Document → List Diagnostic → List Data
 with_beginnings shows d found =
     if not shows || not (is_database d.name) || nat_lt 1073741824 (length d.text) then map diagnostic found
-    else map (related d (pieces_of d.text)) found
+    else map (related_value d (pieces_of d.text)) found
 
 -- the same, without reading the document if there are none
 abbrev pub diagnostics_in : Bool → Document → List Diagnostic → List Data

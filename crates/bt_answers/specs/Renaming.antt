@@ -13,7 +13,7 @@ use Rattle.bt_documents.specs.declared.document.Document.{Document}
 use Rattle.bt_edited.specs.declared.edits.Edit.{Edit}
 use Rattle.bt_edited.specs.declared.changes.Change.{Change}
 use Rattle.bt_edited.specs.declared.changes.Change.TheVariants as changes
-use Rattle.bt_edited.specs.Edits.{edit_of, edited}
+use Rattle.bt_edited.specs.Edits.{edit_of, text_after_edits}
 use Rattle.bt_edited.specs.Becomes.{is_made}
 use Rattle.bt_answers.specs.EditValues.{edit_values}
 use Rattle.bt_mentions.specs.KeyBytes.{is_key_byte}
@@ -35,18 +35,18 @@ use Rattle.bt_places.specs.Visiting.{with_files, with_texts, is_any}
 pub use Rattle.bt_shapes.specs.Shapes.{text_edit, file_edit, workspace_edit}
 
 -- how a mention of this role spells a name: a number becomes a text in braces
-abbrev pub spelled : Role → List ℕ → List ℕ
-spelled Key name = name
-spelled Crossref name = name
-spelled Number name = 123 ∷ name ++ 125 ∷ []
-spelled Citation name = name
-spelled Definition name = name
-spelled Macro name = name
+abbrev pub spelling : Role → List ℕ → List ℕ
+spelling Key name = name
+spelling Crossref name = name
+spelling Number name = 123 ∷ name ++ 125 ∷ []
+spelling Citation name = name
+spelling Definition name = name
+spelling Macro name = name
 
 -- edits with the one of a mention, if it is one of the old name
 abbrev pub with_edit : Counting → Wanted → List ℕ → List ℕ → List ℕ → List Edit → Mention → List Edit
 with_edit c wanted old new words es m =
-    if is_mention wanted old words m then es ++ edit_of c words m.from m.to (spelled m.role new) ∷ [] else es
+    if is_mention wanted old words m then es ++ edit_of c words m.from m.to (spelling m.role new) ∷ [] else es
 
 -- the edits that rename the mentions of a file of at most 1 GiB; `units` gives the units of each file's text
 abbrev pub name_edits : (List ℕ → Counting) → Wanted → List ℕ → List ℕ → List ℕ → List ℕ → List Edit
@@ -65,7 +65,7 @@ with_renamed units wanted old new list uri words =
 
 -- the text of a file after its edits
 abbrev pub renamed_text : (List ℕ → Counting) → Wanted → List ℕ → List ℕ → List ℕ → List ℕ → Option (List ℕ)
-renamed_text units wanted old new uri words = edited (units uri) (name_edits units wanted old new uri words) words
+renamed_text units wanted old new uri words = text_after_edits (units uri) (name_edits units wanted old new uri words) words
 
 -- what is to become of items
 abbrev pub change_of : Wanted → List ℕ → List ℕ → Change
@@ -107,8 +107,8 @@ can_be_named KeyUses new = is_new_key new
 can_be_named MacroUses new = is_name new
 
 -- all edits that give a name's mentions the new name
-abbrev pub renamed : List (List ℕ × List ℕ) → List Document → Counting → Wanted → List ℕ → List ℕ → Data
-renamed files docs c wanted old new =
+abbrev pub rename_edit : List (List ℕ × List ℕ) → List Document → Counting → Wanted → List ℕ → List ℕ → Data
+rename_edit files docs c wanted old new =
     let add = with_renamed (counting_in c docs) wanted old new in
     workspace_edit (with_texts add docs (with_files add files []))
 
@@ -141,7 +141,7 @@ renamed_if_free files docs c wanted old new =
     else (if not (is_free files docs c wanted old new) then Err TakenName
     else (if not (is_defined files docs c wanted old) then Err UndefinedMacro
     else (if not (are_renamed files docs c wanted old new) then Err InexactRename
-    else Ok (renamed files docs c wanted old new))))
+    else Ok (rename_edit files docs c wanted old new))))
 
 -- the same of what is renamed
 abbrev pub renamed_by : List (List ℕ × List ℕ) → Renaming → Result Data RpcError

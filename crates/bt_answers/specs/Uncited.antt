@@ -11,7 +11,7 @@ use Rattle.bt_places.specs.Shown.{Shown}
 use Rattle.bt_style_answers.specs.Hovering.{hover_contents}
 use Rattle.bt_answers.specs.declared.hints.Names.TheVariants.{Asked}
 use Rattle.bt_answers.specs.Faults.{is_some_text}
-use Rattle.bt_answers.specs.Hints.{collected, asks_all}
+use Rattle.bt_answers.specs.Hints.{names_in, asks_all}
 
 abbrev pub uncited_words : List ℕ → List ℕ
 uncited_words key = codes "Nothing in this paper cites `" ++ key ++ codes "`."
@@ -23,7 +23,7 @@ uncited_hover plain key = hover_contents plain (uncited_words key)
 -- whether neither a citation nor a cross-reference asks for a key
 abbrev pub is_uncited : List (List ℕ × List ℕ) → List ℕ → Bool
 is_uncited files key =
-    let asked = collected Asked files in
+    let asked = names_in Asked files in
     if not (is_some_text key) then false else (if asks_all asked then false else not (has_name asked key))
 
 abbrev pub uncited_of : List (List ℕ × List ℕ) → Bool → List ℕ → Data

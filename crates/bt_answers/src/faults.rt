@@ -88,7 +88,7 @@ pub fn linked_name(alloc: Global, text: &[u8], link: Link) -> Result<Bytes, Allo
 /// The most files of a paper: a session takes no more.
 const MOST_FILES: usize = 64;
 
-fn said(alloc: Global, said: &Said) -> Result<Bytes, AllocError>
+fn said_words(alloc: Global, said: &Said) -> Result<Bytes, AllocError>
     ensures { IfOk result (λ words. words ≡ said_words said.now) }
 {
     let mut words = Bytes::new(alloc);
@@ -100,7 +100,7 @@ fn said(alloc: Global, said: &Said) -> Result<Bytes, AllocError>
 pub fn fault_words(alloc: Global, count: usize, what: &Said) -> Result<Bytes, AllocError>
     ensures { IfOk result (λ words. words ≡ fault_words count what.now) }
 {
-    let mut words = said(alloc, what)?;
+    let mut words = said_words(alloc, what)?;
     if count >= MOST_FILES {
         words.append(b". This paper has 64 files, and bibtex-lsp can open no more")?;
     }

@@ -5,12 +5,12 @@ ghost use Rattle.std.specs.Prelude.{◌≡◌, ◌<◌, ◌*◌, ◌^◌, [], le
 ghost use Rattle.std.specs.List.{fold};
 ghost use Rattle.serde_json.specs.View.{view};
 ghost use Rattle.bt_positions.specs.Lines.{begins_with_feed};
-ghost use Rattle.bt_answers.specs.Formatting.{line_end, layout, is_touched, is_asked, scope_between, scope_of, with_gap, with_gaps, with_asked_gaps, if_kept, formatted};
+ghost use Rattle.bt_answers.specs.Formatting.{line_end, layout, is_touched, is_asked, scope_between, scope_of, with_gap, with_gaps, with_asked_gaps, if_kept, format_edits};
 
 use crate::edit_values::edit_values;
 use bt_bib::{PlacedPiece, read_bib};
 use bt_documents::Document;
-use bt_edited::{Change, Edit, edited, is_made};
+use bt_edited::{Change, Edit, is_made, text_after_edits};
 use bt_mentions::{Gap, gaps, part};
 use bt_places::{SHOWN_BYTES, is_database, position_at};
 use bt_positions::{Counting, IndexedText, Position};
@@ -102,7 +102,6 @@ fn is_asked(scope: Option<Scope>, piece: &PlacedPiece) -> bool
     }
 }
 
-/// The part of a document between two positions, if both are there.
 fn scope_between(document: &Document, from: Option<Position>, to: Option<Position>) -> Option<Scope>
     ensures { result ≡ scope_between document.now from to }
 {
@@ -232,7 +231,7 @@ fn if_kept(
 ) -> Result<Value, AllocError>
     ensures { IfOk result (λ v. view v ≡ if_kept document.now pieces.now edits.now) }
 {
-    let text = edited(alloc, document.counting, &document.text, edits)?;
+    let text = text_after_edits(alloc, document.counting, &document.text, edits)?;
     if !is_made(alloc, &Change::Nothing, pieces, &text)? {
         return Ok(Value::Null);
     }
@@ -241,8 +240,12 @@ fn if_kept(
 }
 
 /// The edits that lay out a document, or the items that the message's range touches, if it is a database.
-pub fn formatted(alloc: Global, document: &Document, message: &Value) -> Result<Value, AllocError>
-    ensures { IfOk result (λ v. view v ≡ formatted document.now (view message.now)) }
+pub fn format_edits(
+    alloc: Global,
+    document: &Document,
+    message: &Value,
+) -> Result<Value, AllocError>
+    ensures { IfOk result (λ v. view v ≡ format_edits document.now (view message.now)) }
 {
     let text = &document.text;
     if !is_database(document.name.as_slice()) || text.as_slice().len() > SHOWN_BYTES {

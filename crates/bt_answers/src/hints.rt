@@ -1,11 +1,10 @@
-//! What an editor is told of keys beside the run's messages: citations of keys that no database has, and entries that nothing
-//! cites.
+//! Hints about keys, beside the run's messages: citations of keys that no database has, and entries that nothing cites.
 
 ghost use Rattle.std.specs.Prelude.{◌≡◌, ◌<◌, ◌*◌, ◌^◌, ◌++◌, ◌∷◌, [], length, map, IfOk, OnOk};
 ghost use Rattle.std.specs.List.{fold};
 ghost use Rattle.serde_json.specs.View.{view};
 ghost use Rattle.bt_places.specs.Shapes.{range_of};
-ghost use Rattle.bt_answers.specs.Hints.{room_after, is_small, with_name, is_asked, with_mention, with_file_names, collected, missing_hint, unused_hint, is_unused, is_unused_at, asks_all, with_missing_among, with_missing_if_any, with_all_missing, with_unused_beside, with_unused_if_any, with_all_unused, with_hints};
+ghost use Rattle.bt_answers.specs.Hints.{room_after, is_small, with_name, is_asked, with_mention, with_file_names, names_in, missing_hint, unused_hint, is_unused, is_unused_at, asks_all, with_missing_among, with_missing_if_any, with_all_missing, with_unused_beside, with_unused_if_any, with_all_unused, with_hints};
 
 use crate::missing::is_missing_at;
 use bt_documents::Document;
@@ -18,8 +17,8 @@ use bt_text::NameList;
 use serde_json::{Value, json};
 use std::alloc::{AllocError, Global};
 
-/// The most bytes of a paper that gets hints: 256 KiB. All databases are read again for them after each change, and in a
-/// larger paper that would take longer than a reader notices.
+/// The most bytes of a paper that gets hints: 256 KiB. Hints need all databases to be re-read after each change, and in a
+/// larger paper you would notice the delay.
 const HINTED_BYTES: usize = 262_144;
 
 /// Which names are collected.
@@ -133,8 +132,8 @@ fn add_file_names(
 }
 
 /// The names in the paper's files, of which no two match.
-pub fn collected<P: Paper>(alloc: Global, asked: Names, paper: &P) -> Result<NameList, AllocError>
-    ensures { IfOk result (λ list. list ≡ collected asked (P.shown paper.now).files) }
+pub fn names_in<P: Paper>(alloc: Global, asked: Names, paper: &P) -> Result<NameList, AllocError>
+    ensures { IfOk result (λ list. list ≡ names_in asked (P.shown paper.now).files) }
 {
     let mut list = NameList::new(alloc);
     'files: for n in 0..paper.file_count() {
@@ -291,12 +290,12 @@ fn with_all_missing<P: Paper>(
     ensures { IfOk result (λ all. map view all.items ≡
         with_all_missing (P.shown paper.now).files document.now (map view list.items)) }
 {
-    let known = collected(alloc, Names::Entries, paper)?;
+    let known = names_in(alloc, Names::Entries, paper)?;
     let all = with_missing_if_any(alloc, &known, document, list)?;
     Ok(all)
 }
 
-/// Whether names say nothing of what isn't asked for: there are none, or one is `*`.
+/// Whether no entry counts as uncited: nothing is cited at all, or `*` is.
 pub fn asks_all(alloc: Global, asked: &NameList) -> Result<bool, AllocError>
     ensures { IfOk result (λ all. all ≡ asks_all asked.now) }
 {
@@ -346,7 +345,7 @@ fn with_all_unused<P: Paper>(
     ensures { IfOk result (λ all. map view all.items ≡
         with_all_unused (P.shown paper.now).files document.now (map view list.items)) }
 {
-    let asked = collected(alloc, Names::Asked, paper)?;
+    let asked = names_in(alloc, Names::Asked, paper)?;
     let all = with_unused_if_any(alloc, &asked, document, list)?;
     Ok(all)
 }

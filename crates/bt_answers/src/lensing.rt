@@ -2,7 +2,7 @@
 
 ghost use Rattle.std.specs.Prelude.{◌≡◌, map, option_map, IfOk};
 ghost use Rattle.serde_json.specs.View.{view};
-ghost use Rattle.bt_answers.specs.Lensing.{line_range, titled, lens_value, lens_values, line_location, line_or_null, origin_object, origin_value};
+ghost use Rattle.bt_answers.specs.Lensing.{line_range, lens_object, lens_value, lens_values, line_location, line_or_null, origin_object, origin_value};
 
 use bt_places::location;
 use bt_positions::Position;
@@ -19,8 +19,8 @@ fn line_range(alloc: Global, line: usize) -> Result<Value, AllocError>
 }
 
 /// Words over a range. They run no command.
-fn titled(alloc: Global, range: Value, words: &[u8]) -> Result<Value, AllocError>
-    ensures { IfOk result (λ v. view v ≡ titled (view range) words.now) }
+fn lens_object(alloc: Global, range: Value, words: &[u8]) -> Result<Value, AllocError>
+    ensures { IfOk result (λ v. view v ≡ lens_object (view range) words.now) }
 {
     let words = shown(alloc, words)?;
     json!(in alloc; {"range": range, "command": {"title": words, "command": ""}})
@@ -30,7 +30,7 @@ fn lens_value(alloc: Global, lens: &Lens) -> Result<Value, AllocError>
     ensures { IfOk result (λ v. view v ≡ lens_value lens.now) }
 {
     let range = line_range(alloc, lens.line)?;
-    let value = titled(alloc, range, lens.words.as_slice())?;
+    let value = lens_object(alloc, range, lens.words.as_slice())?;
     Ok(value)
 }
 

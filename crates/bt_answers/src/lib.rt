@@ -22,7 +22,7 @@ mod uncited;
 
 pub use faults::{fault_words, faulty_file, is_fault, is_some_text, linked_name, with_faults};
 pub use folding::folds_of;
-pub use formatting::formatted;
+pub use formatting::format_edits;
 pub use hints::with_hints;
 pub use keys::keys_of;
 pub use lending::Loan;

@@ -3,11 +3,11 @@
 ghost use Rattle.std.specs.Prelude.{◌≡◌, ◌<◌, ◌*◌, ◌^◌, [], length, IfOk};
 ghost use Rattle.std.specs.List.{fold};
 ghost use Rattle.bt_places.specs.Editor.{counting_in};
-ghost use Rattle.bt_answers.specs.Renaming.{spelled, with_edit, name_edits, renamed_text, change_of, is_database_renamed, is_renamed, also_renamed};
+ghost use Rattle.bt_answers.specs.Renaming.{spelling, with_edit, name_edits, renamed_text, change_of, is_database_renamed, is_renamed, also_renamed};
 
 use crate::references::{Wanted, is_mention};
 use bt_bib::read_bib;
-use bt_edited::{Change, Edit, edited, is_made};
+use bt_edited::{Change, Edit, is_made, text_after_edits};
 use bt_mentions::{Mention, Role};
 use bt_places::{Editor, SHOWN_BYTES, is_database, mentions_of};
 use bt_positions::{Counting, IndexedText};
@@ -24,8 +24,8 @@ pub struct Renaming<'a> {
 }
 
 /// How a mention of this role spells a name: a number becomes a text in braces.
-fn spelled(alloc: Global, role: Role, name: &[u8]) -> Result<Bytes, AllocError>
-    ensures { IfOk result (λ text. text ≡ spelled role name.now) }
+fn spelling(alloc: Global, role: Role, name: &[u8]) -> Result<Bytes, AllocError>
+    ensures { IfOk result (λ text. text ≡ spelling role name.now) }
 {
     match role {
         Role::Number => Bytes::of(alloc, &[b"{", name, b"}"]),
@@ -57,7 +57,7 @@ impl Renaming<'_> {
         if !is_mention(self.wanted, self.old, page.text.as_slice(), one) {
             return Ok(list);
         }
-        let new = spelled(alloc, one.role, self.new)?;
+        let new = spelling(alloc, one.role, self.new)?;
         let mut all = list;
         all.push(Edit::of(page.counting, page.text, one.from, one.to, new))?;
         Ok(all)
@@ -101,13 +101,18 @@ impl Renaming<'_> {
         self.with_each(alloc, &page, found.as_slice())
     }
 
-    fn edited(&self, alloc: Global, uri: &[u8], text: &[u8]) -> Result<Option<Bytes>, AllocError>
+    fn renamed_text(
+        &self,
+        alloc: Global,
+        uri: &[u8],
+        text: &[u8],
+    ) -> Result<Option<Bytes>, AllocError>
         ensures { IfOk result (λ all. all ≡ renamed_text (counting_in self.now.editor.counting self.now.editor.documents.now)
             self.now.wanted self.now.old.now self.now.new.now uri.now text.now) }
     {
         let indexed = IndexedText::copied(alloc, text)?;
         let edits = self.edits_in(alloc, uri, &indexed)?;
-        edited(
+        text_after_edits(
             alloc,
             self.editor.counting_in(uri),
             &indexed,
@@ -135,7 +140,7 @@ impl Renaming<'_> {
         ensures { IfOk result (λ is. is ≡ is_database_renamed (counting_in self.now.editor.counting self.now.editor.documents.now)
             self.now.wanted self.now.old.now self.now.new.now uri.now text.now) }
     {
-        let after = self.edited(alloc, uri, text)?;
+        let after = self.renamed_text(alloc, uri, text)?;
         let change = self.change(alloc)?;
         let items = read_bib(alloc, text)?;
         is_made(alloc, &change, items.pieces(), &after)
@@ -152,7 +157,7 @@ impl Renaming<'_> {
         self.is_database_renamed(alloc, uri, text)
     }
 
-    /// The same of files before and of one more.
+    /// Whether that holds for the files before, and for this one too.
     pub fn also_renamed(
         &self,
         alloc: Global,

@@ -1,4 +1,4 @@
-//! Where a key or a macro is mentioned in the paper's files and in LaTeX's open texts.
+//! Where a key or a macro is mentioned in the paper's files and in open LaTeX texts.
 
 ghost use Rattle.std.specs.Prelude.{◌≡◌, ◌<◌, ◌*◌, ◌^◌, ◌++◌, ◌∷◌, [], length, map, option_map, IfOk};
 ghost use Rattle.serde_json.specs.View.{view};
@@ -9,8 +9,8 @@ ghost use Rattle.bt_answers.specs.References.{wanted_of, asked_of, is_use, is_de
 use crate::lending::Loan;
 use bt_mentions::{Mention, Role, part};
 use bt_places::{
-    Cursor, Editor, NamedText, Paper, Pick, Visit, is_any, is_key, location, mention_at, range_of,
-    with_files, with_picked, with_texts, with_value,
+    Cursor, Editor, NamedText, Paper, Pick, Visit, Workspace, is_any, is_key, location, mention_at,
+    range_of, with_files, with_picked, with_texts, with_value,
 };
 use bt_positions::Counting;
 use bt_style_answers::Lent;
@@ -172,7 +172,7 @@ fn all_references<P: Paper>(
     with_texts(alloc, search.editor.documents, search, list)
 }
 
-/// Whether a name is mentioned in the paper's files or in LaTeX's open texts.
+/// Whether a name is mentioned in the paper's files or in open LaTeX texts.
 pub fn is_mentioned<P: Paper>(
     alloc: Global,
     paper: &P,
@@ -197,59 +197,58 @@ fn references<P: Paper>(alloc: Global, paper: &P, search: &Search<'_>) -> Result
 /// none.
 pub fn references_at<P: Paper>(
     alloc: Global,
-    paper: &P,
-    editor: &Editor<'_>,
+    workspace: &Workspace<'_, P>,
     cursor: &Cursor<'_>,
     with_declarations: bool,
 ) -> Result<Value, AllocError>
-    ensures { IfOk result (λ v. view v ≡ references_at (P.shown paper.now).files editor.now.documents.now
-        editor.now.counting cursor.now.document.now cursor.now.at with_declarations) }
+    ensures { IfOk result (λ v. view v ≡ references_at (P.shown workspace.now.paper.now).files
+        workspace.now.editor.documents.now workspace.now.editor.counting cursor.now.document.now cursor.now.at with_declarations) }
 {
     let Some(one) = mention_at(alloc, cursor)? else {
         return Ok(Value::Null);
     };
     let search = Search {
-        editor: *editor,
+        editor: workspace.editor,
         wanted: asked_of(one.role, with_declarations),
         name: part(cursor.document.text.as_slice(), one.from, one.to),
     };
-    let found = references(alloc, paper, &search)?;
+    let found = references(alloc, workspace.paper, &search)?;
     Ok(found)
 }
 
 fn macro_places<P: Paper>(
     alloc: Global,
-    paper: &P,
-    editor: &Editor<'_>,
+    workspace: &Workspace<'_, P>,
     name: &[u8],
 ) -> Result<Value, AllocError>
     ensures { IfOk result (λ v. view v ≡
-        macro_places (P.shown paper.now).files editor.now.documents.now editor.now.counting name.now) }
+        macro_places (P.shown workspace.now.paper.now).files workspace.now.editor.documents.now workspace.now.editor.counting
+        name.now) }
 {
     let search = Search {
-        editor: *editor,
+        editor: workspace.editor,
         wanted: Wanted::Definitions,
         name,
     };
-    let list = all_references(alloc, paper, &search)?;
+    let list = all_references(alloc, workspace.paper, &search)?;
     let loan = Loan {
-        editor: *editor,
+        editor: workspace.editor,
         lent: Lent::Macro,
         name,
     };
-    let all = with_files(alloc, paper, &loan, list)?;
+    let all = with_files(alloc, workspace.paper, &loan, list)?;
     Ok(Value::Array(all))
 }
 
 /// Where the macro at a position of a document is defined; none if there is no macro.
 pub fn macro_at<P: Paper>(
     alloc: Global,
-    paper: &P,
-    editor: &Editor<'_>,
+    workspace: &Workspace<'_, P>,
     cursor: &Cursor<'_>,
 ) -> Result<Option<Value>, AllocError>
     ensures { IfOk result (λ found. option_map view found ≡
-        macro_at (P.shown paper.now).files editor.now.documents.now editor.now.counting cursor.now.document.now cursor.now.at) }
+        macro_at (P.shown workspace.now.paper.now).files workspace.now.editor.documents.now workspace.now.editor.counting
+        cursor.now.document.now cursor.now.at) }
 {
     let Some(one) = mention_at(alloc, cursor)? else {
         return Ok(None);
@@ -258,6 +257,6 @@ pub fn macro_at<P: Paper>(
         return Ok(None);
     }
     let name = part(cursor.document.text.as_slice(), one.from, one.to);
-    let found = macro_places(alloc, paper, editor, name)?;
+    let found = macro_places(alloc, workspace, name)?;
     Ok(Some(found))
 }

@@ -6,14 +6,14 @@ ghost use Rattle.bt_bib.specs.BibText.{pieces_of};
 ghost use Rattle.bt_bib.specs.inner.Boundaries.{InOrder};
 ghost use Rattle.bt_places.specs.Entries.{item_around};
 ghost use Rattle.bt_places.specs.Shapes.{diagnostic};
-ghost use Rattle.bt_answers.specs.Related.{shows_related, beginning, diagnostic_from, end_of_first, place_of_entry, begins_before, related_to, first_around, related, with_beginnings, diagnostics_in};
+ghost use Rattle.bt_answers.specs.Related.{shows_related, beginning, diagnostic_from, end_of_first, place_of_entry, begins_before, related_to, first_around, related_value, with_beginnings, diagnostics_in};
 
 use bt_bib::{PlacedPiece, read_bib};
 use bt_diagnostics::Diagnostic;
 use bt_documents::Document;
 use bt_mentions::{Mention, with_piece};
 use bt_places::{
-    SHOWN_BYTES, diagnostic, diagnostic_values, is_database, location, range_of, shown,
+    SHOWN_BYTES, diagnostic, diagnostic_values, flag_at, is_database, location, range_of, shown,
 };
 use bt_shapes::range;
 use bt_text::Sequence;
@@ -24,13 +24,11 @@ use std::alloc::{AllocError, Global};
 pub fn shows_related(message: &Value) -> bool
     ensures { result ≡ shows_related (view message.now) }
 {
-    match message
-        .pointer("/params/capabilities/textDocument/publishDiagnostics/relatedInformation")
-        .and_then(Value::as_bool)
-    {
-        Some(shows) => shows,
-        None => false,
-    }
+    flag_at(
+        message,
+        "/params/capabilities/textDocument/publishDiagnostics/relatedInformation",
+    )
+    .unwrap_or(false)
 }
 
 fn beginning(alloc: Global, place: Value) -> Result<Value, AllocError>
@@ -130,7 +128,7 @@ fn found_around(pieces: &[PlacedPiece], place: usize) -> Option<&PlacedPiece>
 }
 
 /// A diagnostic in a document that consists of these pieces.
-fn related(
+fn related_value(
     alloc: Global,
     document: &Document,
     pieces: &[PlacedPiece],
@@ -138,7 +136,7 @@ fn related(
 ) -> Result<Value, AllocError>
     requires small { 2 * length document.now.text < 2 ^ 64 }
     requires order { InOrder pieces.now }
-    ensures { IfOk result (λ v. view v ≡ related document.now pieces.now found.now) }
+    ensures { IfOk result (λ v. view v ≡ related_value document.now pieces.now found.now) }
 {
     let place = document.text.offset_of(document.counting, found.from);
     match found_around(pieces, place) {
@@ -155,11 +153,11 @@ fn related_values(
 ) -> Result<Vec<Value>, AllocError>
     requires small { 2 * length document.now.text < 2 ^ 64 }
     requires order { InOrder pieces.now }
-    ensures { IfOk result (λ list. map view list.items ≡ map (related document.now pieces.now) found.now) }
+    ensures { IfOk result (λ list. map view list.items ≡ map (related_value document.now pieces.now) found.now) }
 {
     let mut list = Vec::new(alloc);
     'found: for one in found {
-        list.push(related(alloc, document, pieces, one)?)?;
+        list.push(related_value(alloc, document, pieces, one)?)?;
     }
     Ok(list)
 }
@@ -170,7 +168,7 @@ fn all_related(
     found: &[Diagnostic],
 ) -> Result<Vec<Value>, AllocError>
     requires { 2 * length document.now.text < 2 ^ 64 }
-    ensures { IfOk result (λ list. map view list.items ≡ map (related document.now (pieces_of document.now.text)) found.now) }
+    ensures { IfOk result (λ list. map view list.items ≡ map (related_value document.now (pieces_of document.now.text)) found.now) }
 {
     let items = read_bib(alloc, document.text.as_slice())?;
     let list = related_values(alloc, document, items.pieces(), found)?;

@@ -1,4 +1,4 @@
-//! Renames a key or a macro in the paper's files and in LaTeX's open texts. The edits of databases are made in copies first,
+//! Renames a key or a macro in the paper's files and in open LaTeX texts. The edits of databases are made in copies first,
 //! and sent only if nothing else changes in their items: a key can be spelled in ways that no mention covers.
 
 ghost use Rattle.std.specs.Prelude.{◌≡◌, ◌<◌, ◌*◌, ◌^◌, ◌++◌, ◌∷◌, [], length, map, option_map, IfOk};
@@ -7,7 +7,7 @@ ghost use Rattle.serde_json.specs.View.{view};
 ghost use Rattle.bt_talk.specs.Replies.{outcome_of};
 ghost use Rattle.bt_mentions.specs.KeyBytes.{is_key_byte};
 ghost use Rattle.bt_places.specs.Shapes.{range_of};
-ghost use Rattle.bt_answers.specs.Renaming.{file_edit, are_renamed, with_file_edit, is_new_key, can_be_named, renamed, is_free, is_lent, is_defined, renamed_by, is_named, rename_at, range_if_defined, name_range_at};
+ghost use Rattle.bt_answers.specs.Renaming.{file_edit, are_renamed, with_file_edit, is_new_key, can_be_named, rename_edit, is_free, is_lent, is_defined, renamed_by, is_named, rename_at, range_if_defined, name_range_at};
 
 use crate::edit_values::edit_values;
 use crate::lending::Loan;
@@ -16,7 +16,7 @@ use crate::references::{Search, Wanted, is_mentioned, wanted_of};
 use bt_documents::Document;
 use bt_mentions::{Mention, is_key_byte, part};
 use bt_places::{
-    Cursor, Editor, Paper, SHOWN_BYTES, Visit, is_any, is_key, mention_at, range_of, with_files,
+    Cursor, Paper, SHOWN_BYTES, Visit, Workspace, is_any, is_key, mention_at, range_of, with_files,
     with_texts, with_value,
 };
 use bt_positions::IndexedText;
@@ -28,6 +28,7 @@ use bt_text::{eq_ignore_ascii_case, is_name};
 use serde_json::Value;
 use std::alloc::{AllocError, Global};
 
+/// Adds the edits of the file at a URI.
 pub fn with_edits(
     alloc: Global,
     list: Vec<Value>,
@@ -101,8 +102,12 @@ fn can_be_named(wanted: Wanted, new: &[u8]) -> bool
     }
 }
 
-fn renamed<P: Paper>(alloc: Global, paper: &P, renaming: &Renaming<'_>) -> Result<Value, AllocError>
-    ensures { IfOk result (λ v. view v ≡ renamed (P.shown paper.now).files renaming.now.editor.documents.now
+fn rename_edit<P: Paper>(
+    alloc: Global,
+    paper: &P,
+    renaming: &Renaming<'_>,
+) -> Result<Value, AllocError>
+    ensures { IfOk result (λ v. view v ≡ rename_edit (P.shown paper.now).files renaming.now.editor.documents.now
         renaming.now.editor.counting renaming.now.wanted renaming.now.old.now renaming.now.new.now) }
 {
     let changes = with_files(alloc, paper, renaming, Vec::new(alloc))?;
@@ -130,18 +135,18 @@ fn is_free<P: Paper>(alloc: Global, paper: &P, renaming: &Renaming<'_>) -> Resul
 /// Whether the style defines a macro.
 fn is_lent<P: Paper>(
     alloc: Global,
-    paper: &P,
-    editor: &Editor<'_>,
+    workspace: &Workspace<'_, P>,
     name: &[u8],
 ) -> Result<bool, AllocError>
-    ensures { IfOk result (λ lent. lent ≡ is_lent (P.shown paper.now).files editor.now.documents.now editor.now.counting name.now) }
+    ensures { IfOk result (λ lent. lent ≡ is_lent (P.shown workspace.now.paper.now).files
+        workspace.now.editor.documents.now workspace.now.editor.counting name.now) }
 {
     let loan = Loan {
-        editor: *editor,
+        editor: workspace.editor,
         lent: Lent::Macro,
         name,
     };
-    let list = with_files(alloc, paper, &loan, Vec::new(alloc))?;
+    let list = with_files(alloc, workspace.paper, &loan, Vec::new(alloc))?;
     Ok(is_any(list.as_slice()))
 }
 
@@ -149,24 +154,24 @@ fn is_lent<P: Paper>(
 /// A key needs no entry.
 fn is_defined<P: Paper>(
     alloc: Global,
-    paper: &P,
-    editor: &Editor<'_>,
+    workspace: &Workspace<'_, P>,
     wanted: Wanted,
     old: &[u8],
 ) -> Result<bool, AllocError>
     ensures { IfOk result (λ defined. defined ≡
-        is_defined (P.shown paper.now).files editor.now.documents.now editor.now.counting wanted old.now) }
+        is_defined (P.shown workspace.now.paper.now).files workspace.now.editor.documents.now workspace.now.editor.counting
+        wanted old.now) }
 {
     match wanted {
         Wanted::Keys | Wanted::KeyUses => Ok(true),
         Wanted::Macros | Wanted::MacroUses | Wanted::Definitions => {
             let search = Search {
-                editor: *editor,
+                editor: workspace.editor,
                 wanted: Wanted::Definitions,
                 name: old,
             };
-            let found = is_mentioned(alloc, paper, &search)?;
-            let lent = is_lent(alloc, paper, editor, old)?;
+            let found = is_mentioned(alloc, workspace.paper, &search)?;
+            let lent = is_lent(alloc, workspace, old)?;
             Ok(found && !lent)
         }
     }
@@ -202,19 +207,17 @@ fn renamed_if_free<P: Paper>(
     if !is_free(alloc, paper, renaming)? {
         return Ok(Err(RpcError::TakenName));
     }
-    if !is_defined(
-        alloc,
+    let workspace = Workspace {
         paper,
-        &renaming.editor,
-        renaming.wanted,
-        renaming.old,
-    )? {
+        editor: renaming.editor,
+    };
+    if !is_defined(alloc, &workspace, renaming.wanted, renaming.old)? {
         return Ok(Err(RpcError::UndefinedMacro));
     }
     if !are_renamed(alloc, paper, renaming)? {
         return Ok(Err(RpcError::InexactRename));
     }
-    Ok(Ok(renamed(alloc, paper, renaming)?))
+    Ok(Ok(rename_edit(alloc, paper, renaming)?))
 }
 
 /// Whether a mention has a name that can change. A number that isn't a key has none, and all entries without a key would get
@@ -229,12 +232,12 @@ fn is_named(text: &[u8], one: Mention) -> bool
 /// The edits that give the key or the macro at a position of a document a new name, in all files; null if there is none.
 pub fn rename_at<P: Paper>(
     alloc: Global,
-    paper: &P,
-    editor: &Editor<'_>,
+    workspace: &Workspace<'_, P>,
     cursor: &Cursor<'_>,
     new: Option<&str>,
 ) -> Result<Result<Value, RpcError>, AllocError>
-    ensures { IfOk result (λ o. outcome_of o ≡ rename_at (P.shown paper.now).files editor.now.documents.now editor.now.counting
+    ensures { IfOk result (λ o. outcome_of o ≡ rename_at (P.shown workspace.now.paper.now).files
+        workspace.now.editor.documents.now workspace.now.editor.counting
         cursor.now.document.now cursor.now.at (option_map (λ s. s.now) new.entry)) }
 {
     let Some(new) = new else {
@@ -248,29 +251,29 @@ pub fn rename_at<P: Paper>(
         return Ok(Ok(Value::Null));
     }
     let renaming = Renaming {
-        editor: *editor,
+        editor: workspace.editor,
         wanted: wanted_of(one.role),
         old: part(text, one.from, one.to),
         new: new.as_bytes(),
     };
-    let outcome = renamed_if_free(alloc, paper, &renaming)?;
+    let outcome = renamed_if_free(alloc, workspace.paper, &renaming)?;
     Ok(outcome)
 }
 
 /// The range of a name, if it can change.
 fn range_if_defined<P: Paper>(
     alloc: Global,
-    paper: &P,
-    editor: &Editor<'_>,
+    workspace: &Workspace<'_, P>,
     document: &Document,
     one: Mention,
 ) -> Result<Result<Value, RpcError>, AllocError>
     requires { 2 * length document.now.text < 2 ^ 64 }
     ensures { IfOk result (λ o. outcome_of o ≡
-        range_if_defined (P.shown paper.now).files editor.now.documents.now editor.now.counting document.now one) }
+        range_if_defined (P.shown workspace.now.paper.now).files workspace.now.editor.documents.now workspace.now.editor.counting
+        document.now one) }
 {
     let old = part(document.text.as_slice(), one.from, one.to);
-    if !is_defined(alloc, paper, editor, wanted_of(one.role), old)? {
+    if !is_defined(alloc, workspace, wanted_of(one.role), old)? {
         return Ok(Err(RpcError::UndefinedMacro));
     }
     let range = range_of(alloc, document.counting, &document.text, one.from, one.to)?;
@@ -280,12 +283,12 @@ fn range_if_defined<P: Paper>(
 /// The range of the name at a position of a document; null if there is none.
 pub fn name_range_at<P: Paper>(
     alloc: Global,
-    paper: &P,
-    editor: &Editor<'_>,
+    workspace: &Workspace<'_, P>,
     cursor: &Cursor<'_>,
 ) -> Result<Result<Value, RpcError>, AllocError>
     ensures { IfOk result (λ o. outcome_of o ≡
-        name_range_at (P.shown paper.now).files editor.now.documents.now editor.now.counting cursor.now.document.now cursor.now.at) }
+        name_range_at (P.shown workspace.now.paper.now).files workspace.now.editor.documents.now workspace.now.editor.counting
+        cursor.now.document.now cursor.now.at) }
 {
     let document = cursor.document;
     if document.text.as_slice().len() > SHOWN_BYTES {
@@ -297,5 +300,5 @@ pub fn name_range_at<P: Paper>(
     if !is_named(document.text.as_slice(), one) {
         return Ok(Ok(Value::Null));
     }
-    range_if_defined(alloc, paper, editor, document, one)
+    range_if_defined(alloc, workspace, document, one)
 }

@@ -6,8 +6,8 @@ ghost use Rattle.bt_answers.specs.Symbols.{query_of, contains, number_of, is_sym
 
 use bt_mentions::{Mention, Role, part};
 use bt_places::{
-    Editor, NamedText, Paper, Pick, Visit, location, range_of, shown, text_at, with_files,
-    with_picked, with_value,
+    Editor, NamedText, Paper, Pick, Visit, Workspace, location, range_of, shown, text_at,
+    with_files, with_picked, with_value,
 };
 use bt_positions::Counting;
 use bt_text::eq_ignore_ascii_case;
@@ -127,17 +127,17 @@ impl Visit for Query<'_> {
 /// The keys and macros of the paper's databases whose names contain the text that a message asks for.
 pub fn symbols_for<P: Paper>(
     alloc: Global,
-    paper: &P,
-    editor: &Editor<'_>,
+    workspace: &Workspace<'_, P>,
     message: &Value,
 ) -> Result<Value, AllocError>
     ensures { IfOk result (λ v. view v ≡
-        symbols (P.shown paper.now).files editor.now.documents.now editor.now.counting (view message.now)) }
+        symbols (P.shown workspace.now.paper.now).files workspace.now.editor.documents.now workspace.now.editor.counting
+        (view message.now)) }
 {
     let query = Query {
-        editor: *editor,
+        editor: workspace.editor,
         text: query_of(message),
     };
-    let list = with_files(alloc, paper, &query, Vec::new(alloc))?;
+    let list = with_files(alloc, workspace.paper, &query, Vec::new(alloc))?;
     Ok(Value::Array(list))
 }

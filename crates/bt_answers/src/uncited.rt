@@ -5,7 +5,7 @@ ghost use Rattle.serde_json.specs.View.{view};
 ghost use Rattle.bt_answers.specs.Uncited.{uncited_words, uncited_hover, is_uncited, uncited_of, uncited_at, hovered_at};
 
 use crate::faults::is_some_text;
-use crate::hints::{Names, asks_all, collected};
+use crate::hints::{Names, asks_all, names_in};
 use bt_places::{Cursor, Paper, hover_at, is_database, key_at};
 use bt_style_answers::hover_contents;
 use bt_text::Bytes;
@@ -33,7 +33,7 @@ fn is_uncited<P: Paper>(alloc: Global, paper: &P, key: &[u8]) -> Result<bool, Al
     if !is_some_text(key) {
         return Ok(false);
     }
-    let asked = collected(alloc, Names::Asked, paper)?;
+    let asked = names_in(alloc, Names::Asked, paper)?;
     if asks_all(alloc, &asked)? {
         return Ok(false);
     }

@@ -1,7 +1,7 @@
 //! An editor's changes of a text.
 
 ghost use Rattle.std.specs.Prelude.{◌≡◌, ◌≤◌, ◌++◌, length, take, drop, IfOk};
-ghost use Rattle.bt_documents.specs.Changes.{edited, all_edited};
+ghost use Rattle.bt_documents.specs.Changes.{text_after, all_edited};
 
 use bt_positions::{Counting, IndexedText, Position};
 use bt_text::Bytes;
@@ -16,7 +16,7 @@ pub enum Change {
     Range(Position, Position, Bytes),
 }
 
-fn replaced(
+fn splice(
     alloc: Global,
     text: &[u8],
     start: usize,
@@ -33,20 +33,20 @@ fn replaced(
     IndexedText::new(alloc, bytes.into_vec())
 }
 
-fn edited(
+fn text_after(
     alloc: Global,
     counting: Counting,
     text: &IndexedText,
     change: &Change,
 ) -> Result<IndexedText, AllocError>
-    ensures { IfOk result (λ changed. changed ≡ edited counting change.now text.now) }
+    ensures { IfOk result (λ changed. changed ≡ text_after counting change.now text.now) }
 {
     match change {
         Change::Whole(new) => IndexedText::copied(alloc, new.as_slice()),
         Change::Range(from, to, new) => {
             let start = text.offset_of(counting, *from);
             let end = text.offset_of(counting, *to).max(start);
-            replaced(alloc, text.as_slice(), start, end, new.as_slice())
+            splice(alloc, text.as_slice(), start, end, new.as_slice())
         }
     }
 }
@@ -63,9 +63,9 @@ pub fn all_edited(
     match changes {
         [] => IndexedText::copied(alloc, text.as_slice()),
         [first, rest @ ..] => {
-            let mut now = edited(alloc, counting, text, first)?;
+            let mut now = text_after(alloc, counting, text, first)?;
             'changes: for change in rest {
-                now = edited(alloc, counting, &now, change)?;
+                now = text_after(alloc, counting, &now, change)?;
             }
             Ok(now)
         }

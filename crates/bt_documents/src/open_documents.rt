@@ -14,7 +14,7 @@ use std::alloc::{AllocError, Global};
 use std::mem;
 
 /// The document after changes, before the files have taken them.
-fn changed(
+fn after_changes(
     alloc: Global,
     document: &Document,
     name: &[u8],
@@ -120,7 +120,7 @@ pub fn change(
     let Some(place) = index_of(documents.as_slice(), name) else {
         return Ok(());
     };
-    let document = changed(alloc, &documents.as_slice()[place], name, version, changes)?;
+    let document = after_changes(alloc, &documents.as_slice()[place], name, version, changes)?;
     documents.set(place, document);
     Ok(())
 }

@@ -16,24 +16,24 @@ use Rattle.bt_edited.specs.declared.changes.Change.{Change}
 use Rattle.bt_edited.specs.declared.changes.Change.TheVariants as changes
 
 -- a name, or the new one in place of the old one; names are compared without case
-abbrev pub replaced : List ℕ → List ℕ → List ℕ → List ℕ
-replaced old new name = if is_same_folded name old then new else name
+abbrev pub name_after : List ℕ → List ℕ → List ℕ → List ℕ
+name_after old new name = if is_same_folded name old then new else name
 
 -- a key after a change
 abbrev pub key_after : Change → List ℕ → List ℕ
 key_after changes.Nothing key = key
-key_after (changes.Key old new) key = replaced old new key
+key_after (changes.Key old new) key = name_after old new key
 key_after (changes.Macro old new) key = key
 
 -- a macro's name after a change
 abbrev pub macro_after : Change → List ℕ → List ℕ
 macro_after changes.Nothing name = name
 macro_after (changes.Key old new) name = name
-macro_after (changes.Macro old new) name = replaced old new name
+macro_after (changes.Macro old new) name = name_after old new name
 
 -- A text that is the old key, apart from case and white space around it, with the new key in its place; none if it isn't.
-abbrev pub rekeyed : List ℕ → List ℕ → List ℕ → Option (List ℕ)
-rekeyed old new text =
+abbrev pub rekeyed_text : List ℕ → List ℕ → List ℕ → Option (List ℕ)
+rekeyed_text old new text =
     let white = prefix_len is_white text in
     let rest = drop white text in
     let key = trimmed_end rest in
@@ -51,7 +51,7 @@ joined_texts ps = fold with_text (Some []) ps
 
 -- the same of a value, by its joined texts
 abbrev pub rekeyed_value : List ℕ → List ℕ → List Part → Option (List ℕ)
-rekeyed_value old new ps = option_and_then (rekeyed old new) (joined_texts ps)
+rekeyed_value old new ps = option_and_then (rekeyed_text old new) (joined_texts ps)
 
 -- a value that becomes one text, if there is one
 abbrev pub text_or : Option (List ℕ) → List Part → List Part

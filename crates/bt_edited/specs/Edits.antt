@@ -31,5 +31,5 @@ abbrev pub finished : List ℕ → Draft → Option (List ℕ)
 finished text d = if d.rises then Some (d.bytes ++ part d.place (length text) text) else None
 
 -- The text after edits, whose positions are those of the text before; none if one begins before the one before it ends.
-abbrev pub edited : Counting → List Edit → List ℕ → Option (List ℕ)
-edited c es text = finished text (fold (draft_after c text) (record { bytes = []; place = 0; rises = true }) es)
+abbrev pub text_after_edits : Counting → List Edit → List ℕ → Option (List ℕ)
+text_after_edits c es text = finished text (fold (draft_after c text) (record { bytes = []; place = 0; rises = true }) es)

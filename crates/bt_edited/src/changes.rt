@@ -2,7 +2,7 @@
 
 ghost use Rattle.std.specs.Prelude.{◌≡◌, ◌++◌, option_map, IfOk};
 ghost use Rattle.std.specs.List.{fold};
-ghost use Rattle.bt_edited.specs.Changes.{replaced, key_after, macro_after, rekeyed, with_text, joined_texts, rekeyed_value, is_crossref};
+ghost use Rattle.bt_edited.specs.Changes.{name_after, key_after, macro_after, rekeyed_text, with_text, joined_texts, rekeyed_value, is_crossref};
 
 use bt_bib::Part;
 use bt_text::{Bytes, eq_ignore_ascii_case, trim_end, white_run};
@@ -19,8 +19,8 @@ pub enum Change {
     Macro(Bytes, Bytes),
 }
 
-fn replaced<'a>(old: &[u8], new: &'a [u8], name: &'a [u8]) -> &'a [u8]
-    ensures { result.now ≡ replaced old.now new.now name.now }
+fn name_after<'a>(old: &[u8], new: &'a [u8], name: &'a [u8]) -> &'a [u8]
+    ensures { result.now ≡ name_after old.now new.now name.now }
 {
     if eq_ignore_ascii_case(name, old) {
         new
@@ -35,7 +35,7 @@ impl Change {
         ensures { result.now ≡ key_after self.now key.now }
     {
         match self {
-            Change::Key(old, new) => replaced(old.as_slice(), new.as_slice(), key),
+            Change::Key(old, new) => name_after(old.as_slice(), new.as_slice(), key),
             Change::Nothing | Change::Macro(_, _) => key,
         }
     }
@@ -45,15 +45,20 @@ impl Change {
         ensures { result.now ≡ macro_after self.now name.now }
     {
         match self {
-            Change::Macro(old, new) => replaced(old.as_slice(), new.as_slice(), name),
+            Change::Macro(old, new) => name_after(old.as_slice(), new.as_slice(), name),
             Change::Nothing | Change::Key(_, _) => name,
         }
     }
 }
 
 /// A text that is the old key, apart from case and white space around it, with the new key in its place; none if it isn't.
-fn rekeyed(alloc: Global, old: &[u8], new: &[u8], text: &[u8]) -> Result<Option<Bytes>, AllocError>
-    ensures { IfOk result (λ all. all ≡ rekeyed old.now new.now text.now) }
+fn rekeyed_text(
+    alloc: Global,
+    old: &[u8],
+    new: &[u8],
+    text: &[u8],
+) -> Result<Option<Bytes>, AllocError>
+    ensures { IfOk result (λ all. all ≡ rekeyed_text old.now new.now text.now) }
 {
     let (white, rest) = text.split_at(white_run(text));
     let key = trim_end(rest);
@@ -100,7 +105,7 @@ pub(crate) fn rekeyed_value(
     ensures { IfOk result (λ all. all ≡ rekeyed_value old.now new.now parts.now) }
 {
     match joined_texts(alloc, parts)? {
-        Some(text) => rekeyed(alloc, old, new, text.as_slice()),
+        Some(text) => rekeyed_text(alloc, old, new, text.as_slice()),
         None => Ok(None),
     }
 }

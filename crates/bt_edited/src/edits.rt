@@ -2,7 +2,7 @@
 
 ghost use Rattle.std.specs.Prelude.{◌≡◌, ◌<◌, ◌*◌, ◌^◌, length, IfOk, OnOk};
 ghost use Rattle.std.specs.List.{fold};
-ghost use Rattle.bt_edited.specs.Edits.{edit_of, draft_after, finished, edited};
+ghost use Rattle.bt_edited.specs.Edits.{edit_of, draft_after, finished, text_after_edits};
 
 use bt_mentions::part;
 use bt_positions::{Counting, IndexedText, Position};
@@ -78,13 +78,13 @@ impl Draft {
 }
 
 /// The text after edits in the order of their positions; none if an edit begins before the one before it ends.
-pub fn edited(
+pub fn text_after_edits(
     alloc: Global,
     counting: Counting,
     text: &IndexedText,
     edits: &[Edit],
 ) -> Result<Option<Bytes>, AllocError>
-    ensures { IfOk result (λ all. all ≡ edited counting edits.now text.now) }
+    ensures { IfOk result (λ all. all ≡ text_after_edits counting edits.now text.now) }
 {
     let mut draft = Draft {
         bytes: Bytes::new(alloc),

@@ -7,4 +7,4 @@ mod edits;
 
 pub use changes::Change;
 pub use comparing::is_made;
-pub use edits::{Edit, edited};
+pub use edits::{Edit, text_after_edits};

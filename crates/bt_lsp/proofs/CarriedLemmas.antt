@@ -1,5 +1,5 @@
 -- What the desk does with a message, from its steps.
-use Rattle.std.proofs.Common.{◌≡◌, ◌∙◌, ◌⊎◌, inl, inr, ap, sym, subst, refl, ℕ, Bool, true, false, List, [], codes, Option, Some, option_map, Result, Ok, Err}
+use Rattle.std.proofs.Common.{◌≡◌, ◌∙◌, ◌⊎◌, inl, inr, ap, sym, subst, ℕ, Bool, true, false, List, [], codes, Option, Some, option_map, Result, Ok, Err}
 use Rattle.std.specs.Prelude.{IsTrue}
 use Rattle.std.specs.List.{AllByRecursion}
 use Rattle.serde_json.specs.Data.{Data}
@@ -24,9 +24,9 @@ use Rattle.bt_lsp.specs.Announcing.{announced_by}
 use Rattle.bt_places.specs.Shapes.{capabilities}
 use Rattle.bt_places.specs.Shown.{Shown}
 use Rattle.bt_lsp.specs.Progress.{shows_progress}
-use Rattle.bt_lsp.specs.Watching.{watches_files, greeting}
+use Rattle.bt_lsp.specs.Watching.{watches_files}
 use Rattle.bt_answers.specs.Related.{shows_related}
-use Rattle.bt_lsp.specs.Desk.{Begins, BeginsBy, IsBegun, TakenOrLost, Tells, Carried, TakenUp, IsGreeted, IsFoundOutcome, is_behind, is_greeting, duty_of, owes, ByDuty, Noted, NotedIf, SettledIf, Answered}
+use Rattle.bt_lsp.specs.Desk.{Begins, BeginsBy, IsBegun, TakenOrLost, Tells, Carried, TakenUp, IsFoundOutcome, is_behind, is_greeting, duty_of, owes, ByDuty, Noted, NotedIf, SettledIf, Answered}
 
 -- a notification that the desk takes
 pub carried : {P : Type 0} (text : P → List ℕ → Option (List ℕ)) (shown : P → Shown) (d next mid e : Server P) (notice : Notice) (m : Data) (told : List Data) (behind : Bool) →
@@ -117,17 +117,6 @@ pub settled_notes : {P : Type 0} (begins : Begins P) (text : P → List ℕ → 
     SettledIf begins text shown b d m told e → AllByRecursion IsNote told
 settled_notes begins text shown false d m told e h = subst (AllByRecursion IsNote) (sym h.0) tt
 settled_notes begins text shown true d m told e h = taken_notes begins text shown d Other m told e h
-
--- what is said to `initialized`
-greeting_notes : (shows watches : Bool) → AllByRecursion IsNote (greeting shows watches)
-greeting_notes true true = ((refl, refl), ((refl, refl), ((refl, refl), tt)))
-greeting_notes true false = ((refl, refl), ((refl, refl), tt))
-greeting_notes false true = ((refl, refl), tt)
-greeting_notes false false = tt
-
-pub greeted_notes : {P : Type 0} (d : Server P) (told : List Data) (e : Server P) → IsGreeted d told e → AllByRecursion IsNote told
-greeted_notes d told e (inl h) = subst (AllByRecursion IsNote) (sym h.0) (greeting_notes d.shows_progress d.watches_files)
-greeted_notes d told e (inr h) = subst (AllByRecursion IsNote) (sym h.0) tt
 
 -- a notification that the desk takes
 pub noted_carried : {P : Type 0} (begins : Begins P) (text : P → List ℕ → Option (List ℕ)) (shown : P → Shown) (d : Server P) (method : List ℕ) (m : Data) (told : List Data) (e : Server P)

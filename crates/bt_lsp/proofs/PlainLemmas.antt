@@ -48,7 +48,7 @@ use Rattle.bt_answers.specs.References.{macro_at}
 use Rattle.bt_answers.specs.Renaming.{mention_range}
 use Rattle.bt_shapes.proofs.PlainLists.{all_mapped}
 use Rattle.bt_places.proofs.PlainLists.{IsPlainData, items_plain, all_both, either_plain, either_outcome}
-use Rattle.bt_answers.proofs.FeaturePlain.{macro_plain, references_plain, renamed_plain, range_plain, folds_plain, found_symbols_plain, links_plain, formatted_plain, hints_plain, faults_plain}
+use Rattle.bt_answers.proofs.FeaturePlain.{macro_plain, references_plain, renamed_plain, range_plain, folds_plain, found_symbols_plain, links_plain, format_edits_plain, hints_plain, faults_plain}
 use Rattle.bt_writing.proofs.FeaturePlain.{actions_plain}
 use Rattle.bt_places.proofs.CompletingPlain.{one_plain}
 use Rattle.bt_writing.proofs.CompletingPlain.{completion_plain}
@@ -60,7 +60,7 @@ use Rattle.bt_answers.specs.Keys.{role_of, key_spans}
 use Rattle.bt_lsp.specs.Placing.{found_in}
 use Rattle.bt_style_text.specs.declared.words.Word.{Word}
 use Rattle.bt_lsp.specs.Desk.{IsOutcome, IsFoundOutcome, Tells, Carried}
-use Rattle.bt_places.proofs.PlainLemmas.{published_note, one_note, no_note, plain_from}
+use Rattle.bt_places.proofs.PlainLemmas.{publication_note, one_note, no_note, plain_from}
 use Rattle.bt_answers.proofs.PlainLemmas.{hovered_plain, diagnostics_in_plain, symbols_plain, origin_plain}
 use Rattle.bt_writing.proofs.PlainLemmas.{definition_plain}
 
@@ -78,7 +78,7 @@ published_notes shown s (d ∷ ds) =
     let found = values_of shown s fault d in
     let faulty = with_faults run d found in
     let hinted = with_hints run.files d faulty in (
-      published_note d.name (with_style_hints s.checked fault d hinted)
+      publication_note d.name (with_style_hints s.checked fault d hinted)
           (style_hints_plain s.checked fault d hinted (hints_plain run.files d faulty (faults_plain run d found (values_plain shown s fault d)))),
       published_notes shown s ds,
     )
@@ -92,7 +92,7 @@ warnings_notes lost behind = all_both IsNote (warned lost_words lost) _ (warned_
 
 cleared_at_notes : (uri : Option (List ℕ)) → AllByRecursion IsNote (cleared_at uri)
 cleared_at_notes None = tt
-cleared_at_notes (Some uri) = (published_note uri [] tt, tt)
+cleared_at_notes (Some uri) = (publication_note uri [] tt, tt)
 
 cleared_notes : (notice : Notice) (m : Data) → AllByRecursion IsNote (cleared notice m)
 cleared_notes Opened m = tt
@@ -162,7 +162,7 @@ place_plain shown found s query m (Some place) = at_plain shown found s query pl
 text_of_plain : {P : Type 0} (shown : P → Shown) (s : Server P) (query : DocumentQuery) (d : Document) (m : Data) → has_float (text_answer_of shown s query d m) ≡ false
 text_of_plain shown s Outline d m = symbols_plain d
 text_of_plain shown s Folds d m = folds_plain d
-text_of_plain shown s Format d m = formatted_plain d m
+text_of_plain shown s Format d m = format_edits_plain d m
 text_of_plain shown s Links d m = links_plain (shown s.paper).files d
 text_of_plain shown s Actions d m = actions_plain d (position_at (codes "/params/range/start/line") (codes "/params/range/start/character") m)
 

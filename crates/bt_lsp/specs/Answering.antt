@@ -29,7 +29,7 @@ use Rattle.bt_writing.specs.Completing.{completion_at}
 use Rattle.bt_answers.specs.Symbols.{symbols}
 use Rattle.bt_answers.specs.Outline.{symbols_of}
 use Rattle.bt_answers.specs.Folding.{folds_of}
-use Rattle.bt_answers.specs.Formatting.{formatted}
+use Rattle.bt_answers.specs.Formatting.{format_edits}
 use Rattle.bt_writing.specs.Actions.{actions}
 use Rattle.bt_places.specs.Entries.{is_style}
 use Rattle.bt_answers.specs.Links.{links_of}
@@ -58,7 +58,7 @@ answer_at shown found s query d at m =
 abbrev pub text_answer_of : {P : Type 0} → (P → Shown) → Server P → DocumentQuery → Document → Data → Data
 text_answer_of shown s Outline d m = symbols_of d
 text_answer_of shown s Folds d m = folds_of d
-text_answer_of shown s Format d m = formatted d m
+text_answer_of shown s Format d m = format_edits d m
 text_answer_of shown s Actions d m = actions d m
 text_answer_of shown s Links d m = links_of (shown s.paper).files d
 

@@ -16,7 +16,7 @@ use Rattle.bt_answers.specs.Keys.{role_of, key_spans}
 use Rattle.bt_answers.specs.Faults.{with_faults}
 use Rattle.bt_answers.specs.Hints.{with_hints}
 use Rattle.bt_answers.specs.Related.{diagnostics_in}
-use Rattle.bt_places.specs.Shapes.{published}
+use Rattle.bt_places.specs.Shapes.{publication}
 use Rattle.bt_lsp.specs.Placing.{fault_in, found_in, with_messages}
 use Rattle.bt_lsp.specs.Styles.{with_style_hints}
 use Rattle.bt_style_text.specs.declared.words.Word.{Word}
@@ -57,15 +57,15 @@ values_of shown s fault d =
     if is_run_style d then style_values shown s fault d else diagnostics_in s.shows_related d (shown_of (shown s.paper) d)
 
 -- the notification that publishes them, errors about files at their names, the hints, and what the check of a style found
-abbrev pub published_of : {P : Type 0} → (P → Shown) → Server P → Document → Data
-published_of shown s d =
+abbrev pub publication_of : {P : Type 0} → (P → Shown) → Server P → Document → Data
+publication_of shown s d =
     let fault = fault_for (shown s.paper) d in
-    published d.name (with_style_hints s.checked fault d (with_hints (shown s.paper).files d
+    publication d.name (with_style_hints s.checked fault d (with_hints (shown s.paper).files d
     (with_faults (shown s.paper) d (values_of shown s fault d))))
 
 -- the diagnostics of each open document
 abbrev pub all_published : {P : Type 0} → (P → Shown) → Server P → List Document → List Data
-all_published shown s docs = map (published_of shown s) docs
+all_published shown s docs = map (publication_of shown s) docs
 
 -- what comes first, then the diagnostics of each open document, and what is announced
 abbrev pub news : {P : Type 0} → (P → Shown) → Server P → List Data → List Data
@@ -98,7 +98,7 @@ warnings lost behind = warned lost_words lost ++ warned behind_words behind
 -- that the document of this URI has no diagnostics, if there is a URI
 abbrev pub cleared_at : Option (List ℕ) → List Data
 cleared_at None = []
-cleared_at (Some uri) = published uri [] ∷ []
+cleared_at (Some uri) = publication uri [] ∷ []
 
 -- that a document which is closed has no diagnostics
 abbrev pub cleared : Notice → Data → List Data

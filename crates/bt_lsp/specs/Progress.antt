@@ -1,12 +1,12 @@
 -- Progress of a paper's first run.
-use Rattle.std.specs.Prelude.{ℕ, Bool, false, if◌then◌else◌, List, [], ◌∷◌, ◌++◌, codes, unwrap_or, option_and_then}
+use Rattle.std.specs.Prelude.{ℕ, Bool, false, if◌then◌else◌, List, [], ◌∷◌, ◌++◌, codes, unwrap_or}
 use Rattle.serde_json.specs.Data.{Data, string, object, member, no_members}
-use Rattle.serde_json.specs.Find.{pointer, as_bool}
 use Rattle.bt_rpc.specs.Messages.{notification}
+use Rattle.bt_places.specs.Parameters.{flag_at}
 
 -- whether an editor shows progress, as it says in `initialize`
 abbrev pub shows_progress : Data → Bool
-shows_progress m = unwrap_or (option_and_then as_bool (pointer (codes "/params/capabilities/window/workDoneProgress") m)) false
+shows_progress m = unwrap_or (flag_at (codes "/params/capabilities/window/workDoneProgress") m) false
 
 -- the name of the run among what goes on, and the id of the request that creates it
 abbrev pub token : List ℕ
@@ -38,8 +38,8 @@ abbrev pub progress : Data → Data
 progress value = notification (codes "$/progress") (progress_params value)
 
 -- what is said as the run begins
-abbrev pub begun : List Data
-begun = creating ∷ progress beginning ∷ []
+abbrev pub begin_messages : List Data
+begin_messages = creating ∷ progress beginning ∷ []
 
 -- a list, and that the run has ended if its beginning was said
 abbrev pub with_end : Bool → List Data → List Data

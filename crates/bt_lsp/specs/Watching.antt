@@ -1,13 +1,13 @@
 -- The files for whose changes on disk the server asks.
-use Rattle.std.specs.Prelude.{Bool, false, if◌then◌else◌, List, [], ◌∷◌, ◌++◌, codes, unwrap_or, option_and_then}
+use Rattle.std.specs.Prelude.{Bool, false, if◌then◌else◌, List, [], ◌∷◌, ◌++◌, codes, unwrap_or}
 use Rattle.serde_json.specs.Data.{Data, string, array, item, no_items, object, member, no_members}
-use Rattle.serde_json.specs.Find.{pointer, as_bool}
-use Rattle.bt_lsp.specs.Progress.{begun}
+use Rattle.bt_places.specs.Parameters.{flag_at}
+use Rattle.bt_lsp.specs.Progress.{begin_messages}
 
 -- whether an editor watches files for a server that asks for it, as it says in `initialize`
 abbrev pub watches_files : Data → Bool
 watches_files m =
-    unwrap_or (option_and_then as_bool (pointer (codes "/params/capabilities/workspace/didChangeWatchedFiles/dynamicRegistration") m)) false
+    unwrap_or (flag_at (codes "/params/capabilities/workspace/didChangeWatchedFiles/dynamicRegistration") m) false
 
 -- the files that LaTeX writes and authors change
 abbrev pub watchers : Data
@@ -30,9 +30,9 @@ registering =
     (member (codes "method") (string (codes "client/registerCapability")) (member (codes "params") registrations no_members))))
 
 -- what is said if the first run is announced
-abbrev pub begun_if : Bool → List Data
-begun_if shows = if shows then begun else []
+abbrev pub begin_messages_if : Bool → List Data
+begin_messages_if shows = if shows then begin_messages else []
 
 -- what an editor is told after `initialized`: that the first run begins, and which files are to be watched
 abbrev pub greeting : Bool → Bool → List Data
-greeting shows watches = if watches then begun_if shows ++ registering ∷ [] else begun_if shows
+greeting shows watches = if watches then begin_messages_if shows ++ registering ∷ [] else begin_messages_if shows

@@ -1,4 +1,4 @@
-//! What an editor may have announced after each change: the bibliography, the log and the run's status, so that a window can
+//! What an editor can ask to be sent after each change: the bibliography, the log and the run's status, so that a window can
 //! follow them. An editor that didn't ask for them might complain of methods that it doesn't know.
 
 ghost use Rattle.std.specs.Prelude.{◌≡◌, ◌++◌, ◌∷◌, [], map, IfOk};

@@ -10,7 +10,7 @@ use crate::found::Found;
 use crate::methods::{CursorQuery, DocumentQuery, PaperQuery, Request, RunQuery};
 use crate::server::Server;
 use bt_answers::{
-    folds_of, formatted, hovered_at, lens_values, links_of, name_range_at, origin_value,
+    folds_of, format_edits, hovered_at, lens_values, links_of, name_range_at, origin_value,
     references_at, rename_at, symbols_for, symbols_of,
 };
 use bt_documents::Document;
@@ -44,22 +44,22 @@ impl<P: Paper> Question<'_, P> {
     {
         let alloc = self.alloc;
         let paper = &self.server.paper;
-        let editor = self.server.editor();
+        let workspace = self.server.workspace();
         match query {
             CursorQuery::Hover => {
                 let plain = self.server.hovers_plain;
                 Ok(Ok(hovered_at(alloc, paper, plain, cursor)?))
             }
-            CursorQuery::Definition => { Ok(Ok(definition_at(alloc, paper, &editor, cursor)?)) }
+            CursorQuery::Definition => Ok(Ok(definition_at(alloc, &workspace, cursor)?)),
             CursorQuery::References => {
                 let with_declarations = wants_declarations(self.message);
-                Ok(Ok(references_at(alloc, paper, &editor, cursor, with_declarations)?))
+                Ok(Ok(references_at(alloc, &workspace, cursor, with_declarations)?))
             }
             CursorQuery::Rename => {
                 let new = text_at(self.message, "/params/newName");
-                rename_at(alloc, paper, &editor, cursor, new)
+                rename_at(alloc, &workspace, cursor, new)
             }
-            CursorQuery::NameRange => name_range_at(alloc, paper, &editor, cursor),
+            CursorQuery::NameRange => name_range_at(alloc, &workspace, cursor),
             CursorQuery::Completion => Ok(Ok(completion_at(alloc, paper, cursor)?)),
         }
     }
@@ -72,7 +72,7 @@ impl<P: Paper> Question<'_, P> {
         match query {
             DocumentQuery::Outline => symbols_of(self.alloc, document),
             DocumentQuery::Folds => folds_of(self.alloc, document),
-            DocumentQuery::Format => formatted(self.alloc, document, self.message),
+            DocumentQuery::Format => format_edits(self.alloc, document, self.message),
             DocumentQuery::Actions => actions_for(self.alloc, document, self.message),
             DocumentQuery::Links => links_of(self.alloc, &self.server.paper, document),
         }
@@ -136,9 +136,7 @@ impl<P: Paper> Question<'_, P> {
             PaperQuery::Bibliography => self.bibliography_answer(),
             PaperQuery::Log => shown_text(alloc, paper.log(), paper.status()),
             PaperQuery::Status => shown_status(alloc, paper.status()),
-            PaperQuery::Symbols => {
-                symbols_for(alloc, paper, &self.server.editor(), self.message)
-            }
+            PaperQuery::Symbols => { symbols_for(alloc, &self.server.workspace(), self.message) }
         }
     }
 

@@ -9,7 +9,7 @@ ghost use Rattle.bt_lsp.specs.Desk.{news_of, news_with, BeginsBy, IsStarted, IsL
 ghost use Rattle.bt_lsp.specs.declared.methods.Notice.TheVariants.{Changed};
 
 use crate::complaints::{complaints, with_complaints};
-use crate::methods::Notice;
+use crate::methods::{Notice, Notification};
 use crate::news::{first_news, is_run_style, news};
 use crate::progress::with_end;
 use crate::server::Server;
@@ -49,9 +49,8 @@ fn start<P: Paper>(alloc: Global, server: &mut Server<P>) -> Result<(), AllocErr
     Ok(())
 }
 
-/// Takes a notification, or remembers that it is lost.
-fn take_or_lose<P: Paper>(alloc: Global, server: &mut Server<P>, notice: Notice, message: &Value)
-    ensures taken { TakenOrLost notice (view message.now) server.old server.new }
+fn take_or_lose<P: Paper>(alloc: Global, server: &mut Server<P>, notification: &Notification<'_>)
+    ensures taken { TakenOrLost notification.now.notice (view notification.now.message.now) server.old server.new }
     ensures follows { Follows (P.text server.old.paper) server.old.documents →
         Follows (P.text server.old.paper) server.new.documents }
     ensures rest { server.new ≡ record server.old {
@@ -60,9 +59,9 @@ fn take_or_lose<P: Paper>(alloc: Global, server: &mut Server<P>, notice: Notice,
       stale = server.new.stale;
     } }
 {
-    match take(alloc, server, notice, message) {
+    match take(alloc, server, notification) {
         Ok(()) => {
-            server.stale = notice.rereads() || server.stale;
+            server.stale = notification.notice.rereads() || server.stale;
         }
         Err(_) => {
             server.lost = true;
@@ -131,20 +130,18 @@ fn all_news<P: Paper>(
     Ok(all)
 }
 
-/// The news, and the complaints among it.
 fn news_and_complaints<P: Paper>(
     alloc: Global,
     server: &Server<P>,
     behind: bool,
-    notice: Notice,
-    message: &Value,
+    notification: &Notification<'_>,
 ) -> Result<(Vec<Value>, Bytes), AllocError>
     ensures told { IfOk result (λ r. map view r.0.items ≡ news_of P.shown server.now.lost server.now.in_progress
-        server.now.said behind notice (view message.now) server.now) }
+        server.now.said behind notification.now.notice (view notification.now.message.now) server.now) }
     ensures said { IfOk result (λ r. r.1 ≡ complaints (P.shown server.now.paper) server.now.documents) }
 {
     let said = complaints(alloc, &server.paper, server.documents.as_slice())?;
-    let first = first_news(alloc, server.lost, behind, notice, message)?;
+    let first = first_news(alloc, server.lost, behind, notification)?;
     let told = all_news(alloc, server, said.as_slice(), first)?;
     Ok((told, said))
 }
@@ -185,14 +182,14 @@ fn tell<P: Paper + Remarks>(
     alloc: Global,
     server: &mut Server<P>,
     behind: bool,
-    notice: Notice,
-    message: &Value,
+    notification: &Notification<'_>,
 ) -> Vec<Value>
-    ensures told { Tells P.shown server.old behind notice (view message.now) (map view result.items) server.new }
+    ensures told { Tells P.shown server.old behind notification.now.notice (view notification.now.message.now)
+        (map view result.items) server.new }
     ensures rest { server.new ≡ with_told server.old server.new }
 {
     let told = match look(alloc, server) {
-        Ok(()) => news_and_complaints(alloc, server, behind, notice, message),
+        Ok(()) => news_and_complaints(alloc, server, behind, notification),
         Err(error) => Err(error),
     };
     match told {
@@ -214,39 +211,43 @@ fn tell<P: Paper + Remarks>(
 fn carry<P: Paper + Remarks>(
     alloc: Global,
     server: &mut Server<P>,
-    notice: Notice,
-    message: &Value,
+    notification: &Notification<'_>,
 ) -> Vec<Value>
-    ensures { Carried P.text P.shown server.old notice (view message.now) (map view result.items) server.new }
+    ensures { Carried P.text P.shown server.old notification.now.notice (view notification.now.message.now)
+        (map view result.items) server.new }
 {
-    take_or_lose(alloc, server, notice, message);
+    take_or_lose(alloc, server, notification);
     let behind = catch_up(alloc, server);
-    tell(alloc, server, behind, notice, message)
+    tell(alloc, server, behind, notification)
 }
 
-/// Takes a change of which nothing is told yet. The paper gets its text later.
+/// Takes a change, and puts off the news. The paper gets its text later.
 fn put_off<P: Paper>(alloc: Global, server: &mut Server<P>, message: &Value) -> Vec<Value>
     ensures { Carried P.text P.shown server.old Changed (view message.now) (map view result.items) server.new }
 {
-    take_or_lose(alloc, server, Notice::Changed, message);
+    let change = Notification {
+        notice: Notice::Changed,
+        message,
+    };
+    take_or_lose(alloc, server, &change);
     server.pending = true;
     Vec::new(alloc)
 }
 
-/// Takes a notification and tells the news. If more input is there already behind a change, both the paper and the editor
-/// wait for the last one.
+/// Takes a notification and tells the news. If more input already follows a change, the paper and the editor wait for the
+/// last change.
 fn carry_or_put_off<P: Paper + Remarks>(
     alloc: Global,
     server: &mut Server<P>,
-    notice: Notice,
-    message: &Value,
+    notification: &Notification<'_>,
     ahead: Ahead,
 ) -> Vec<Value>
-    ensures { Carried P.text P.shown server.old notice (view message.now) (map view result.items) server.new }
+    ensures { Carried P.text P.shown server.old notification.now.notice (view notification.now.message.now)
+        (map view result.items) server.new }
 {
-    match (notice, ahead) {
-        (Notice::Changed, Ahead::More) => put_off(alloc, server, message),
-        _ => carry(alloc, server, notice, message),
+    match (notification.notice, ahead) {
+        (Notice::Changed, Ahead::More) => put_off(alloc, server, notification.message),
+        _ => carry(alloc, server, notification),
     }
 }
 
@@ -263,14 +264,14 @@ fn lose<P: Paper>(server: &mut Server<P>)
 pub fn take_up<P: Paper + Remarks>(
     alloc: Global,
     server: &mut Server<P>,
-    notice: Notice,
-    message: &Value,
+    notification: &Notification<'_>,
     ahead: Ahead,
 ) -> Vec<Value>
-    ensures { TakenUp P.begins P.text P.shown server.old notice (view message.now) (map view result.items) server.new }
+    ensures { TakenUp P.begins P.text P.shown server.old notification.now.notice (view notification.now.message.now)
+        (map view result.items) server.new }
 {
     match start(alloc, server) {
-        Ok(()) => carry_or_put_off(alloc, server, notice, message, ahead),
+        Ok(()) => carry_or_put_off(alloc, server, notification, ahead),
         Err(_) => {
             lose(server);
             Vec::new(alloc)

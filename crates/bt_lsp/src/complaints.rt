@@ -178,8 +178,8 @@ fn jobless_words(alloc: Global) -> Result<Bytes, AllocError>
     )
 }
 
-/// What there is to say of errors about files for which no document has a place; empty if there is nothing. Before there is a
-/// job, it is that there is none.
+/// The errors about files for which no document has a place, in words; empty if there are none. Before there is a job, the
+/// complaint is that there is none.
 pub fn complaints<P: Paper>(
     alloc: Global,
     paper: &P,
@@ -195,7 +195,6 @@ pub fn complaints<P: Paper>(
     Ok(words)
 }
 
-/// The warning in these words.
 fn complaint(alloc: Global, words: &[u8]) -> Result<Value, AllocError>
     ensures { IfOk result (λ v. view v ≡ complaint words.now) }
 {
@@ -204,7 +203,7 @@ fn complaint(alloc: Global, words: &[u8]) -> Result<Value, AllocError>
     warning(alloc, words.as_str())
 }
 
-/// Adds what there is to say, if that is something and wasn't said before.
+/// Adds the complaints, if there are any and they weren't said before.
 pub fn with_complaints(
     alloc: Global,
     said: &[u8],

@@ -1,5 +1,5 @@
-//! What is found out for a request: about the stack in a style, and about the run. No contract says what that is; the
-//! answer says exactly this.
+//! What is found out for a request: about the stack in a style, and about the run. No contract says what that is, only that
+//! the answer reports exactly this.
 
 use crate::methods::{CursorQuery, Request, RunQuery};
 use crate::server::Server;

@@ -3,6 +3,8 @@
 ghost use Rattle.std.specs.Prelude.{◌≡◌};
 ghost use Rattle.bt_lsp.specs.Methods.{rereads, request_of, notice_of};
 
+use serde_json::Value;
+
 /// A request by its method.
 #[derive(Clone, Copy)]
 pub enum Request {
@@ -64,6 +66,13 @@ pub enum Notice {
     Saved,
     Exit,
     Other,
+}
+
+/// A notification, with its message.
+#[derive(Clone, Copy)]
+pub struct Notification<'a> {
+    pub notice: Notice,
+    pub message: &'a Value,
 }
 
 impl Notice {

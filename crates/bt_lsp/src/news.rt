@@ -2,18 +2,18 @@
 
 ghost use Rattle.std.specs.Prelude.{◌≡◌, ◌<◌, ◌*◌, ◌^◌, ◌++◌, [], length, map, IfOk};
 ghost use Rattle.serde_json.specs.View.{view};
-ghost use Rattle.bt_lsp.specs.News.{run_name, shows, shown_of, is_run_style, fault_for, style_values, values_of, published_of, warning_params, warning, lost_words, behind_words, warned, warnings, cleared, all_published, news};
-ghost use Rattle.bt_places.specs.Shapes.{published};
+ghost use Rattle.bt_lsp.specs.News.{run_name, shows, shown_of, is_run_style, fault_for, style_values, values_of, publication_of, warning_params, warning, lost_words, behind_words, warned, warnings, cleared, all_published, news};
+ghost use Rattle.bt_places.specs.Shapes.{publication};
 
 use crate::announcing::with_announced;
-use crate::methods::Notice;
+use crate::methods::{Notice, Notification};
 use crate::placing::{OpenStyle, fault_in};
 use crate::server::Server;
 use crate::styles::{HINTED_BYTES, with_style_hints};
 use bt_answers::{diagnostics_in, keys_of, with_faults, with_hints};
 use bt_diagnostics::{Diagnostic, FileText, diagnostics};
 use bt_documents::Document;
-use bt_places::{Paper, SHOWN_BYTES, is_style, is_tex, published, text_at};
+use bt_places::{Paper, SHOWN_BYTES, is_style, is_tex, publication, text_at};
 use bt_rpc::notification;
 use bt_style_text::Word;
 use bt_text::Sequence;
@@ -127,12 +127,12 @@ fn values_of<P: Paper>(
 }
 
 /// The notification that publishes the diagnostics of a document.
-fn published_of<P: Paper>(
+fn publication_of<P: Paper>(
     alloc: Global,
     server: &Server<P>,
     document: &Document,
 ) -> Result<Value, AllocError>
-    ensures { IfOk result (λ v. view v ≡ published_of P.shown server.now document.now) }
+    ensures { IfOk result (λ v. view v ≡ publication_of P.shown server.now document.now) }
 {
     let paper = &server.paper;
     let fault = fault_for(alloc, paper, document)?;
@@ -140,7 +140,7 @@ fn published_of<P: Paper>(
     let list = with_faults(alloc, paper, document, list)?;
     let list = with_hints(alloc, paper, document, list)?;
     let list = with_style_hints(alloc, server.checked.as_slice(), fault, document, list)?;
-    published(alloc, document.name.as_slice(), list)
+    publication(alloc, document.name.as_slice(), list)
 }
 
 /// What the editor is told if a message was lost.
@@ -184,9 +184,9 @@ fn lost_warning(alloc: Global, lost: bool) -> Result<Vec<Value>, AllocError>
 
 /// Tells the editor that a closed document has no diagnostics.
 fn no_diagnostics(alloc: Global, uri: &str) -> Result<Value, AllocError>
-    ensures { IfOk result (λ v. view v ≡ published uri.now []) }
+    ensures { IfOk result (λ v. view v ≡ publication uri.now []) }
 {
-    published(alloc, uri.as_bytes(), Vec::new(alloc))
+    publication(alloc, uri.as_bytes(), Vec::new(alloc))
 }
 
 /// The warnings: that a message was lost, and that memory ran out for a document's text.
@@ -205,21 +205,20 @@ pub fn first_news(
     alloc: Global,
     lost: bool,
     behind: bool,
-    notice: Notice,
-    message: &Value,
+    notification: &Notification<'_>,
 ) -> Result<Vec<Value>, AllocError>
-    ensures { IfOk result (λ told. map view told.items ≡ warnings lost behind ++ cleared notice (view message.now)) }
+    ensures { IfOk result (λ told. map view told.items ≡ warnings lost behind ++
+        cleared notification.now.notice (view notification.now.message.now)) }
 {
     let mut told = warnings(alloc, lost, behind)?;
-    if notice == Notice::Closed
-        && let Some(uri) = text_at(message, "/params/textDocument/uri")
+    if notification.notice == Notice::Closed
+        && let Some(uri) = text_at(notification.message, "/params/textDocument/uri")
     {
         told.push(no_diagnostics(alloc, uri)?)?;
     }
     Ok(told)
 }
 
-/// Adds the diagnostics of open documents.
 fn with_diagnostics<P: Paper>(
     alloc: Global,
     server: &Server<P>,
@@ -231,7 +230,7 @@ fn with_diagnostics<P: Paper>(
 {
     let mut told = first;
     'documents: for document in documents {
-        told.push(published_of(alloc, server, document)?)?;
+        told.push(publication_of(alloc, server, document)?)?;
     }
     Ok(told)
 }

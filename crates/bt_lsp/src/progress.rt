@@ -1,13 +1,13 @@
 //! Progress of a paper's first run, for which all files are read.
 //!
-//! The run comes with the first message after `initialized`, so that the editor learns before that it begins. The desk doesn't
-//! wait for the answer to its request: an editor that refuses the token drops the notifications.
+//! The run happens at the first message after `initialized`, so the editor can be told before it begins. The desk doesn't wait
+//! for the answer to its request: an editor that refuses the token drops the notifications.
 
 ghost use Rattle.std.specs.Prelude.{◌≡◌, ◌++◌, ◌∷◌, [], map, IfOk};
 ghost use Rattle.serde_json.specs.View.{view};
-ghost use Rattle.bt_lsp.specs.Progress.{shows_progress, token, beginning, ending, creating, progress_params, progress, begun, with_end};
+ghost use Rattle.bt_lsp.specs.Progress.{shows_progress, token, beginning, ending, creating, progress_params, progress, begin_messages, with_end};
 
-use bt_places::with_value;
+use bt_places::{flag_at, with_value};
 use bt_rpc::notification;
 use serde_json::{Value, json};
 use std::alloc::{AllocError, Global};
@@ -16,13 +16,7 @@ use std::alloc::{AllocError, Global};
 pub fn shows_progress(message: &Value) -> bool
     ensures { result ≡ shows_progress (view message.now) }
 {
-    match message
-        .pointer("/params/capabilities/window/workDoneProgress")
-        .and_then(Value::as_bool)
-    {
-        Some(shows) => shows,
-        None => false,
-    }
+    flag_at(message, "/params/capabilities/window/workDoneProgress").unwrap_or(false)
 }
 
 /// The name of the run among what goes on, and the id of the request that creates it.
@@ -70,9 +64,9 @@ fn progress(alloc: Global, value: Value) -> Result<Value, AllocError>
     Ok(note)
 }
 
-/// Says that the run begins.
-pub fn begun(alloc: Global) -> Result<Vec<Value>, AllocError>
-    ensures { IfOk result (λ told. map view told.items ≡ begun) }
+/// The messages that say that the run begins.
+pub fn begin_messages(alloc: Global) -> Result<Vec<Value>, AllocError>
+    ensures { IfOk result (λ told. map view told.items ≡ begin_messages) }
 {
     let value = beginning(alloc)?;
     let mut told = Vec::new(alloc);

@@ -11,12 +11,12 @@ use crate::announcing::{Announced, announced_by};
 use crate::answering::Question;
 use crate::carrying::take_up;
 use crate::found::{Found, found_for};
-use crate::methods::{Notice, Request, notice_of, request_of};
+use crate::methods::{Notice, Notification, Request, notice_of, request_of};
 use crate::progress::shows_progress;
 use crate::watching::{greeting, watches_files};
 use bt_answers::shows_related;
 use bt_documents::Document;
-use bt_places::{Editor, Paper, capabilities, counting_of, has_word_at};
+use bt_places::{Editor, Paper, Workspace, capabilities, counting_of, has_word_at};
 use bt_remarks::{Checked, Remarks, StepWord};
 use bt_rpc::RpcError;
 use bt_streams::Ahead;
@@ -56,13 +56,13 @@ pub struct Server<P> {
     pub counts_bytes: bool,
     /// Whether the editor takes hovers as plain text alone.
     pub hovers_plain: bool,
-    /// Whether a message was lost of which the editor hasn't been warned.
+    /// Whether a message was lost and the editor hasn't been warned of it.
     pub lost: bool,
-    /// Whether the paper has yet to read the files again that aren't open.
+    /// Whether the paper has yet to re-read the files that aren't open.
     pub stale: bool,
     /// Whether there is news that the editor hasn't been told.
     pub pending: bool,
-    /// The message `initialize`, as long as the paper hasn't begun.
+    /// The message `initialize`, until the paper has begun.
     pub start: Option<Value>,
     /// Whether the editor shows progress.
     pub shows_progress: bool,
@@ -78,7 +78,7 @@ pub struct Server<P> {
     pub checked: Sequence<Checked>,
     /// For each message the word of the open style that ran when it came.
     pub step_words: Sequence<Option<StepWord>>,
-    /// What the editor has announced after each change.
+    /// What the editor asked to be sent after each change.
     pub announced: Announced,
     /// Whether `exit` came.
     pub over: bool,
@@ -153,6 +153,18 @@ impl<P: Paper> Server<P> {
             documents: self.documents.as_slice(),
             checked: self.checked.as_slice(),
             counting: counting_of(self.counts_bytes),
+        }
+    }
+
+    /// The paper, and what the editor holds open.
+    pub fn workspace(&self) -> Workspace<'_, P>
+        ensures paper { result.paper.now ≡ self.now.paper }
+        ensures documents { result.editor.documents.now ≡ self.now.documents }
+        ensures counting { result.editor.counting ≡ counting_of self.now.counts_bytes }
+    {
+        Workspace {
+            paper: &self.paper,
+            editor: self.editor(),
         }
     }
 
@@ -281,7 +293,11 @@ fn settle<P: Paper + Remarks>(alloc: Global, server: &mut Server<P>, message: &V
         (map view result.items) server.new }
 {
     if owes(server.phase, is_behind(server)) {
-        take_up(alloc, server, Notice::Other, message, Ahead::Nothing)
+        let nothing = Notification {
+            notice: Notice::Other,
+            message,
+        };
+        take_up(alloc, server, &nothing, Ahead::Nothing)
     } else {
         Vec::new(alloc)
     }
@@ -325,7 +341,7 @@ impl<P: Paper + Remarks + Drop> Desk for Server<P> {
                 Vec::new(alloc)
             }
             Duty::Pass => Vec::new(alloc),
-            Duty::Carry => take_up(alloc, self, notice, message, ahead),
+            Duty::Carry => take_up(alloc, self, &Notification { notice, message }, ahead),
         }
     }
 

@@ -23,7 +23,7 @@ use std::alloc::{AllocError, Global};
 /// The most bytes of a style that is checked after each change: 256 KiB.
 pub const HINTED_BYTES: usize = 262_144;
 
-/// A document's text as that of a style.
+/// A document's text as a style.
 pub fn shown_style(document: &Document) -> ShownStyle<'_>
     requires { 2 * length document.now.text < 2 ^ 64 }
     ensures uri { result.uri.now ≡ document.now.name }
@@ -57,7 +57,6 @@ fn outcome_for(answer: Result<Value, RenameRefusal>) -> Result<Value, RpcError>
     }
 }
 
-/// The edits of a rename.
 fn rename_outcome(
     alloc: Global,
     style: &ShownStyle<'_>,

@@ -1,17 +1,16 @@
 //! What notifications do to the documents.
 
-ghost use Rattle.std.specs.Prelude.{◌≡◌, ℕ, List, Option, IfOk, OnErr, option_map};
+ghost use Rattle.std.specs.Prelude.{◌≡◌, ℕ, List, Option, IfOk, OnErr};
 ghost use Rattle.serde_json.specs.View.{view};
 ghost use Rattle.bt_documents.specs.Documents.{Follows};
-ghost use Rattle.bt_places.specs.Parameters.{document_named};
 ghost use Rattle.bt_places.specs.Words.{counting_for};
 ghost use Rattle.bt_lsp.specs.Taken.{IsOpened, IsChanged, IsClosed, Taken};
 
 use crate::changes::changes_of;
-use crate::methods::Notice;
+use crate::methods::{Notice, Notification};
 use crate::server::Server;
 use bt_documents::{Document, change, close, open};
-use bt_places::{Paper, bytes_of, text_at, version_at};
+use bt_places::{Paper, bytes_of, document_named, text_at, version_at};
 use bt_positions::{Counting, IndexedText};
 use bt_text::{Bytes, Sequence};
 use serde_json::Value;
@@ -65,18 +64,6 @@ fn take_opened<P: Paper>(
     Ok(())
 }
 
-fn counting_named(documents: &[Document], name: &[u8]) -> Option<Counting>
-    ensures { result ≡ option_map (λ d. d.counting) (document_named name.now documents.now) }
-{
-    match documents
-        .iter()
-        .find(|document| document.name.as_slice() == name)
-    {
-        Some(document) => Some(document.counting),
-        None => None,
-    }
-}
-
 /// Makes the changes that a message says.
 pub fn take_changed(
     alloc: Global,
@@ -90,10 +77,10 @@ pub fn take_changed(
     let Some(uri) = text_at(message, "/params/textDocument/uri") else {
         return Err(Untaken);
     };
-    let Some(counting) = counting_named(documents.as_slice(), uri.as_bytes()) else {
+    let Some(document) = document_named(documents.as_slice(), uri.as_bytes()) else {
         return Err(Untaken);
     };
-    let Some(changes) = changes_of(alloc, counting, message)? else {
+    let Some(changes) = changes_of(alloc, document.counting, message)? else {
         return Err(Untaken);
     };
     let version = version_at(message, "/params/textDocument/version");
@@ -127,16 +114,16 @@ fn take_closed(
 pub fn take<P: Paper>(
     alloc: Global,
     server: &mut Server<P>,
-    notice: Notice,
-    message: &Value,
+    notification: &Notification<'_>,
 ) -> Result<(), Untaken>
-    ensures taken { IfOk result (λ _.
-        Taken server.old.counts_bytes notice (view message.now) server.old.documents server.new.documents) }
+    ensures taken { IfOk result (λ _. Taken server.old.counts_bytes notification.now.notice
+        (view notification.now.message.now) server.old.documents server.new.documents) }
     ensures follows { (text : List ℕ → Option (List ℕ)) →
         Follows text server.old.documents → Follows text server.new.documents }
     ensures err { OnErr result (server.new ≡ server.old) }
     ensures rest { server.new ≡ record server.old { documents = server.new.documents } }
 {
+    let Notification { notice, message } = *notification;
     let documents = &mut server.documents;
     match notice {
         Notice::Opened => {

@@ -1,13 +1,13 @@
-//! What the server says to `initialized`: that the first run begins, to an editor that shows progress, and for which files it
-//! wants to learn that they have changed on disk, to an editor that watches files for a server. So no editor needs settings
-//! for that. The desk doesn't wait for the answer.
+//! What the server sends after `initialized`. An editor that shows progress is told that the first run begins. An editor that
+//! watches files for servers is asked to report changes on disk, so it needs no settings for that. The desk doesn't wait for
+//! the answer.
 
 ghost use Rattle.std.specs.Prelude.{◌≡◌, map, IfOk};
 ghost use Rattle.serde_json.specs.View.{view};
-ghost use Rattle.bt_lsp.specs.Watching.{watches_files, watchers, registrations, registering, begun_if, greeting};
+ghost use Rattle.bt_lsp.specs.Watching.{watches_files, watchers, registrations, registering, begin_messages_if, greeting};
 
-use crate::progress::begun;
-use bt_places::with_value;
+use crate::progress::begin_messages;
+use bt_places::{flag_at, with_value};
 use serde_json::{Value, json};
 use std::alloc::{AllocError, Global};
 
@@ -15,13 +15,11 @@ use std::alloc::{AllocError, Global};
 pub fn watches_files(message: &Value) -> bool
     ensures { result ≡ watches_files (view message.now) }
 {
-    match message
-        .pointer("/params/capabilities/workspace/didChangeWatchedFiles/dynamicRegistration")
-        .and_then(Value::as_bool)
-    {
-        Some(watches) => watches,
-        None => false,
-    }
+    flag_at(
+        message,
+        "/params/capabilities/workspace/didChangeWatchedFiles/dynamicRegistration",
+    )
+    .unwrap_or(false)
 }
 
 /// The files that LaTeX writes and authors change.
@@ -48,11 +46,11 @@ fn registering(alloc: Global) -> Result<Value, AllocError>
     json!(in alloc; {"jsonrpc": "2.0", "id": "bibtex-lsp/watch", "method": "client/registerCapability", "params": params})
 }
 
-fn begun_if(alloc: Global, shows: bool) -> Result<Vec<Value>, AllocError>
-    ensures { IfOk result (λ told. map view told.items ≡ begun_if shows) }
+fn begin_messages_if(alloc: Global, shows: bool) -> Result<Vec<Value>, AllocError>
+    ensures { IfOk result (λ told. map view told.items ≡ begin_messages_if shows) }
 {
     if shows {
-        begun(alloc)
+        begin_messages(alloc)
     } else {
         Ok(Vec::new(alloc))
     }
@@ -62,7 +60,7 @@ fn begun_if(alloc: Global, shows: bool) -> Result<Vec<Value>, AllocError>
 pub fn greeting(alloc: Global, shows: bool, watches: bool) -> Result<Vec<Value>, AllocError>
     ensures { IfOk result (λ told. map view told.items ≡ greeting shows watches) }
 {
-    let told = begun_if(alloc, shows)?;
+    let told = begin_messages_if(alloc, shows)?;
     if !watches {
         return Ok(told);
     }

@@ -11,16 +11,16 @@ use Rattle.bt_mentions.specs.declared.citing.Citing.{Citing}
 use Rattle.bt_mentions.specs.declared.citing.Citing.TheVariants.{Outside, Name, Before, Option as InOption, Keys}
 
 -- the first letter that counts
-abbrev pub begun : ℕ → Letters
-begun letter = if letter == 99 then C else Nothing
+abbrev pub letters_from : ℕ → Letters
+letters_from letter = if letter == 99 then C else Nothing
 
 -- after one more letter of a command's name, in lower case
 abbrev pub letters_after : Letters → ℕ → Letters
-letters_after Nothing letter = begun letter
-letters_after C letter = if letter == 105 then Ci else begun letter
-letters_after Ci letter = if letter == 116 then Cit else begun letter
-letters_after Cit letter = if letter == 101 then Cite else (if letter == 97 then Cita else begun letter)
-letters_after Cita letter = if letter == 116 then Found else begun letter
+letters_after Nothing letter = letters_from letter
+letters_after C letter = if letter == 105 then Ci else letters_from letter
+letters_after Ci letter = if letter == 116 then Cit else letters_from letter
+letters_after Cit letter = if letter == 101 then Cite else (if letter == 97 then Cita else letters_from letter)
+letters_after Cita letter = if letter == 116 then Found else letters_from letter
 letters_after Cite letter = if letter == 115 then Cites else Found
 letters_after Cites letter = Found
 letters_after Found letter = Found

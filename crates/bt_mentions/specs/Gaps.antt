@@ -24,14 +24,14 @@ is_separator (Braced is_crossref depth) byte = false
 is_separator (Quoted is_crossref depth) byte = false
 
 -- the gap that ends before a byte, if one does
-abbrev pub ended : Option ℕ → ℕ → ℕ → Option Gap
-ended None place byte = None
-ended (Some from) place byte =
+abbrev pub gap_before : Option ℕ → ℕ → ℕ → Option Gap
+gap_before None place byte = None
+gap_before (Some from) place byte =
     if is_white byte then None else Some (record { from = from; to = place; is_last = false })
 
 -- where the gap begins that ends with this byte, if there is one
-abbrev pub reopened : Option ℕ → Inside → ℕ → ℕ → Option ℕ
-reopened begun state place byte =
+abbrev pub begun_after : Option ℕ → Inside → ℕ → ℕ → Option ℕ
+begun_after begun state place byte =
     if is_separator state byte then Some (place + 1) else (if is_white byte then begun else None)
 
 -- the place after the last byte that isn't white space
@@ -44,9 +44,9 @@ gaps_after s byte =
     record {
       state = inside_after s.state byte;
       place = s.place + 1;
-      begun = reopened s.begun s.state s.place byte;
+      begun = begun_after s.begun s.state s.place byte;
       solid_end = solid_after s.solid_end s.place byte;
-      found = s.found ++ cons_option (ended s.begun s.place byte) [];
+      found = s.found ++ cons_option (gap_before s.begun s.place byte) [];
     }
 
 -- the gaps, and the last one, up to the place

@@ -61,14 +61,14 @@ linking_after text place (File kind from) byte =
     if ends_name byte then in_argument kind place byte else File kind from
 
 -- the name that ends before a byte at a place, if one does
-abbrev pub ended : Linking → ℕ → ℕ → Option Link
-ended (File kind from) place byte =
+abbrev pub link_before : Linking → ℕ → ℕ → Option Link
+link_before (File kind from) place byte =
     if ends_name byte then Some (record { from = from; to = place; kind = kind }) else None
-ended Outside place byte = None
-ended (Command from) place byte = None
-ended (Ahead kind) place byte = None
-ended (Choice kind) place byte = None
-ended (Argument kind) place byte = None
+link_before Outside place byte = None
+link_before (Command from) place byte = None
+link_before (Ahead kind) place byte = None
+link_before (Choice kind) place byte = None
+link_before (Argument kind) place byte = None
 
 -- a scan of a text after one more byte
 abbrev pub link_after : List ℕ → LinkScan → ℕ → LinkScan
@@ -76,7 +76,7 @@ link_after text s byte =
     record {
       state = linking_after text s.place s.state byte;
       place = s.place + 1;
-      found = s.found ++ cons_option (ended s.state s.place byte) [];
+      found = s.found ++ cons_option (link_before s.state s.place byte) [];
     }
 
 -- the files that a text names, in order

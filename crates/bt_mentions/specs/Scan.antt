@@ -15,17 +15,17 @@ abbrev pub is_kept : Role → ℕ → Bool
 is_kept role byte = is_parent role && not (byte == 44) && not (byte == 35)
 
 -- the mention that goes on after the byte at a place: the byte begins it, belongs to it or leaves it as it is
-abbrev pub continued : Option Role → ℕ → ℕ → Option Mention → Option Mention
-continued None byte place None = None
-continued None byte place (Some m) = if is_kept m.role byte then Some m else None
-continued (Some role) byte place None = Some (record { from = place; to = place + 1; role = role })
-continued (Some role) byte place (Some m) = Some (record { from = m.from; to = place + 1; role = m.role })
+abbrev pub current_after : Option Role → ℕ → ℕ → Option Mention → Option Mention
+current_after None byte place None = None
+current_after None byte place (Some m) = if is_kept m.role byte then Some m else None
+current_after (Some role) byte place None = Some (record { from = place; to = place + 1; role = role })
+current_after (Some role) byte place (Some m) = Some (record { from = m.from; to = place + 1; role = m.role })
 
 -- the mention that a byte ends: that of a parent at the comma after the value, another one at once
-abbrev pub finished : Option Role → ℕ → Option Mention → Option Mention
-finished None byte None = None
-finished None byte (Some m) = if is_parent m.role && not (byte == 44) then None else Some m
-finished (Some role) byte current = None
+abbrev pub mention_before : Option Role → ℕ → Option Mention → Option Mention
+mention_before None byte None = None
+mention_before None byte (Some m) = if is_parent m.role && not (byte == 44) then None else Some m
+mention_before (Some role) byte current = None
 
 -- a scan after one more byte
 abbrev pub scan_after : Scan → ℕ → Scan
@@ -33,8 +33,8 @@ scan_after s byte =
     record {
       state = state_after s.state byte;
       place = s.place + 1;
-      current = continued (role_at s.state byte) byte s.place s.current;
-      found = s.found ++ cons_option (finished (role_at s.state byte) byte s.current) [];
+      current = current_after (role_at s.state byte) byte s.place s.current;
+      found = s.found ++ cons_option (mention_before (role_at s.state byte) byte s.current) [];
     }
 
 -- the mentions, and the one that the bytes end with; a text that isn't closed is none

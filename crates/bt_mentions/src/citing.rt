@@ -3,7 +3,7 @@
 //! A name such as `\explicit` or `\opacity` isn't one: a rename would change what has nothing to do with keys.
 
 ghost use Rattle.std.specs.Prelude.{◌≡◌};
-ghost use Rattle.bt_mentions.specs.Citing.{begun, letters_after, arguments_of, before_after, after_name, name_after, after_keys, citing_after, are_keys, is_citing};
+ghost use Rattle.bt_mentions.specs.Citing.{letters_from, letters_after, arguments_of, before_after, after_name, name_after, after_keys, citing_after, are_keys, is_citing};
 
 use bt_text::is_white;
 
@@ -44,8 +44,8 @@ pub enum Citing {
     Keys(Arguments),
 }
 
-fn begun(letter: u8) -> Letters
-    ensures { result ≡ begun letter }
+fn letters_from(letter: u8) -> Letters
+    ensures { result ≡ letters_from letter }
 {
     if letter == b'c' {
         Letters::C
@@ -59,28 +59,28 @@ fn letters_after(before: Letters, letter: u8) -> Letters
     ensures { result ≡ letters_after before letter }
 {
     match before {
-        Letters::Nothing => begun(letter),
+        Letters::Nothing => letters_from(letter),
         Letters::C => if letter == b'i' {
             Letters::Ci
         } else {
-            begun(letter)
+            letters_from(letter)
         },
         Letters::Ci => if letter == b't' {
             Letters::Cit
         } else {
-            begun(letter)
+            letters_from(letter)
         },
         Letters::Cit => if letter == b'e' {
             Letters::Cite
         } else if letter == b'a' {
             Letters::Cita
         } else {
-            begun(letter)
+            letters_from(letter)
         },
         Letters::Cita => if letter == b't' {
             Letters::Found
         } else {
-            begun(letter)
+            letters_from(letter)
         },
         Letters::Cite => if letter == b's' {
             Letters::Cites

@@ -3,7 +3,7 @@
 
 ghost use Rattle.std.specs.Prelude.{◌≡◌, ◌<◌, ◌≤◌, ◌+◌, ◌^◌, ◌++◌, ◌∷◌, [], length, IfOk, OnOk};
 ghost use Rattle.std.specs.List.{fold};
-ghost use Rattle.bt_mentions.specs.Gaps.{is_separator, ended, reopened, solid_after, gaps_after, all_gaps, gaps_between, place_after_key, content_gaps, item_gaps, gaps};
+ghost use Rattle.bt_mentions.specs.Gaps.{is_separator, gap_before, begun_after, solid_after, gaps_after, all_gaps, gaps_between, place_after_key, content_gaps, item_gaps, gaps};
 
 use crate::databases::{head_len, opening_len, part};
 use crate::inside::{Inside, inside_after};
@@ -41,8 +41,8 @@ fn is_separator(state: Inside, byte: u8) -> bool
     }
 }
 
-fn ended(begun: Option<usize>, place: usize, byte: u8) -> Option<Gap>
-    ensures { result ≡ ended begun place byte }
+fn gap_before(begun: Option<usize>, place: usize, byte: u8) -> Option<Gap>
+    ensures { result ≡ gap_before begun place byte }
 {
     match begun {
         Some(from) => if is_white(byte) {
@@ -58,9 +58,9 @@ fn ended(begun: Option<usize>, place: usize, byte: u8) -> Option<Gap>
     }
 }
 
-fn reopened(begun: Option<usize>, state: Inside, place: usize, byte: u8) -> Option<usize>
+fn begun_after(begun: Option<usize>, state: Inside, place: usize, byte: u8) -> Option<usize>
     requires { place + 1 < 2 ^ 64 }
-    ensures { result ≡ reopened begun state place byte }
+    ensures { result ≡ begun_after begun state place byte }
 {
     if is_separator(state, byte) {
         Some(place + 1)
@@ -83,8 +83,9 @@ impl Search {
         requires { self.old.place + 1 < 2 ^ 64 }
         ensures { OnOk result (self.new ≡ gaps_after self.old byte) }
     {
-        self.found.push_if_any(ended(self.begun, self.place, byte))?;
-        self.begun = reopened(self.begun, self.state, self.place, byte);
+        self.found
+            .push_if_any(gap_before(self.begun, self.place, byte))?;
+        self.begun = begun_after(self.begun, self.state, self.place, byte);
         self.solid_end = solid_after(self.solid_end, self.place, byte);
         self.state = inside_after(self.state, byte);
         self.place += 1;

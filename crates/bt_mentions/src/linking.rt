@@ -1,8 +1,7 @@
 //! The files that a LaTeX text or an `.aux` file names, in arguments of commands such as `\bibliography` and `\input`.
 
-ghost use Rattle.std.specs.Prelude.{◌≡◌, ◌<◌, ◌+◌, ◌^◌, ◌++◌, [], IfOk, OnOk};
-ghost use Rattle.std.specs.List.{cons_option};
-ghost use Rattle.bt_mentions.specs.Links.{kind_of, is_command_byte, ends_name, before_after, after_command, in_argument, linking_after, ended, link_after, links};
+ghost use Rattle.std.specs.Prelude.{◌≡◌, ◌<◌, ◌+◌, ◌^◌, IfOk, OnOk};
+ghost use Rattle.bt_mentions.specs.Links.{kind_of, is_command_byte, ends_name, before_after, after_command, in_argument, linking_after, link_before, link_after, links};
 
 use crate::databases::part;
 use bt_text::{Sequence, is_white};
@@ -158,8 +157,8 @@ fn linking_after(text: &[u8], place: usize, before: Linking, byte: u8) -> Linkin
 }
 
 /// The name that ends before a byte at a place, if one does.
-fn ended(state: Linking, place: usize, byte: u8) -> Option<Link>
-    ensures { result ≡ ended state place byte }
+fn link_before(state: Linking, place: usize, byte: u8) -> Option<Link>
+    ensures { result ≡ link_before state place byte }
 {
     match state {
         Linking::File(kind, from) => if ends_name(byte) {
@@ -175,21 +174,13 @@ fn ended(state: Linking, place: usize, byte: u8) -> Option<Link>
     }
 }
 
-fn push_if_any(found: &mut Sequence<Link>, one: Option<Link>) -> Result<(), AllocError>
-    ensures { OnOk result (found.new ≡ found.old ++ cons_option one []) }
-{
-    if let Some(one) = one {
-        found.push(one)?;
-    }
-    Ok(())
-}
-
 impl LinkScan {
     fn take(&mut self, text: &[u8], byte: u8) -> Result<(), AllocError>
         requires { self.old.place + 1 < 2 ^ 64 }
         ensures { OnOk result (self.new ≡ link_after text.now self.old byte) }
     {
-        push_if_any(&mut self.found, ended(self.state, self.place, byte))?;
+        self.found
+            .push_if_any(link_before(self.state, self.place, byte))?;
         self.state = linking_after(text, self.place, self.state, byte);
         self.place += 1;
         Ok(())

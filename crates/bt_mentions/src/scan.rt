@@ -2,7 +2,7 @@
 
 ghost use Rattle.std.specs.Prelude.{◌≡◌, ◌<◌, ◌+◌, ◌^◌, ◌++◌, [], length, IfOk, OnOk};
 ghost use Rattle.std.specs.List.{fold};
-ghost use Rattle.bt_mentions.specs.Scan.{is_kept, continued, finished, scan_after, all_found, citations};
+ghost use Rattle.bt_mentions.specs.Scan.{is_kept, current_after, mention_before, scan_after, all_found, citations};
 
 use crate::citing::Citing;
 use crate::mention::{Mention, Role, is_parent};
@@ -21,22 +21,22 @@ pub struct Scan {
     pub found: Sequence<Mention>,
 }
 
-/// Whether a mention goes on after a byte that isn't a part of it. That of a parent does up to the end of the value, because a
-/// `#` would end it.
+/// Whether a mention stays the current one after a byte that isn't part of it. A parent's key does up to the comma, because a
+/// `#` before that makes the value no key.
 fn is_kept(role: Role, byte: u8) -> bool
     ensures { result ≡ is_kept role byte }
 {
     is_parent(role) && byte != b',' && byte != b'#'
 }
 
-fn continued(
+fn current_after(
     role: Option<Role>,
     byte: u8,
     place: usize,
     current: Option<Mention>,
 ) -> Option<Mention>
     requires { place + 1 < 2 ^ 64 }
-    ensures { result ≡ continued role byte place current }
+    ensures { result ≡ current_after role byte place current }
 {
     match (role, current) {
         (None, None) => None,
@@ -58,8 +58,8 @@ fn continued(
     }
 }
 
-fn finished(role: Option<Role>, byte: u8, current: Option<Mention>) -> Option<Mention>
-    ensures { result ≡ finished role byte current }
+fn mention_before(role: Option<Role>, byte: u8, current: Option<Mention>) -> Option<Mention>
+    ensures { result ≡ mention_before role byte current }
 {
     match (role, current) {
         (None, Some(one)) => if is_parent(one.role) && byte != b',' {
@@ -78,8 +78,9 @@ impl Scan {
         ensures { OnOk result (self.new ≡ scan_after self.old byte) }
     {
         let role = role_at(self.state, byte);
-        self.found.push_if_any(finished(role, byte, self.current))?;
-        self.current = continued(role, byte, self.place, self.current);
+        self.found
+            .push_if_any(mention_before(role, byte, self.current))?;
+        self.current = current_after(role, byte, self.place, self.current);
         self.state = state_after(self.state, byte);
         self.place += 1;
         Ok(())

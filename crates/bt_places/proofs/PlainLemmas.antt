@@ -8,7 +8,7 @@ use Rattle.bt_rpc.specs.declared.answers.RpcError.{RpcError}
 use Rattle.bt_talk.specs.Handled.{IsNote, HasNoFloat}
 use Rattle.bt_talk.specs.Replies.{outcome_of, IsPlain}
 use Rattle.bt_diagnostics.specs.declared.diagnostic.Diagnostic.{Diagnostic}
-use Rattle.bt_places.specs.Shapes.{diagnostic, published}
+use Rattle.bt_places.specs.Shapes.{diagnostic, publication}
 use Rattle.bt_places.specs.Hover.{hover_lines}
 use Rattle.bt_places.proofs.PlainLists.{IsPlainData, items_plain, all_both}
 
@@ -18,8 +18,8 @@ pub diagnostics_plain : (ds : List Diagnostic) → AllByRecursion HasNoFloat (ma
 diagnostics_plain [] = tt
 diagnostics_plain (d ∷ ds) = (refl, diagnostics_plain ds)
 
-pub published_note : (uri : List ℕ) (list : List Data) → AllByRecursion HasNoFloat list → IsNote (published uri list)
-published_note uri list p = (refl, rw (items_plain list p) refl)
+pub publication_note : (uri : List ℕ) (list : List Data) → AllByRecursion HasNoFloat list → IsNote (publication uri list)
+publication_note uri list p = (refl, rw (items_plain list p) refl)
 
 pub one_note : (b : Bool) (note : Data) (list : List Data) → IsNote note → AllByRecursion IsNote list → AllByRecursion IsNote (if b then list ++ note ∷ [] else list)
 one_note true note list is p = all_both IsNote list (note ∷ []) p (is, tt)

@@ -46,5 +46,5 @@ closed_after spot [] = []
 closed_after spot (b ∷ t) = let now = spot_after spot b t in shown_byte now b ∷ closed_after now t
 
 -- a text of LaTeX with blanks for each comment that leaves a citation open
-abbrev pub closed : List ℕ → List ℕ
-closed text = closed_after Text text
+abbrev pub without_open_comments : List ℕ → List ℕ
+without_open_comments text = closed_after Text text

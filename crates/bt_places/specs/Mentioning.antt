@@ -8,12 +8,12 @@ use Rattle.bt_mentions.specs.declared.mention.Role.TheVariants.{Key, Crossref, N
 use Rattle.bt_mentions.specs.declared.mention.Mention.{Mention}
 use Rattle.bt_mentions.specs.Scan.{citations}
 use Rattle.bt_mentions.specs.Databases.{mentions}
-use Rattle.bt_places.specs.Commented.{closed}
+use Rattle.bt_places.specs.Commented.{without_open_comments}
 use Rattle.bt_places.specs.Entries.{is_database, is_style, is_tex}
 
 -- the citations of a file that is no database; what a comment of LaTeX leaves open cites nothing
 abbrev pub citations_of : List ℕ → List ℕ → List Mention
-citations_of name text = if not (is_tex name) then citations false text else citations true (closed text)
+citations_of name text = if not (is_tex name) then citations false text else citations true (without_open_comments text)
 
 -- the mentions of a file, by its name: a database has mentions, a style none, and any other text citations
 abbrev pub mentions_of : List ℕ → List ℕ → List Mention

@@ -46,9 +46,13 @@ number_at path m = option_and_then (λ d. option_and_then as_u64 (as_number d)) 
 abbrev pub version_at : List ℕ → Data → ℤ
 version_at path m = unwrap_or (option_and_then (λ d. option_and_then as_i64 (as_number d)) (pointer path m)) (pos 0)
 
+-- the boolean at a pointer
+abbrev pub flag_at : List ℕ → Data → Option Bool
+flag_at path m = option_and_then as_bool (pointer path m)
+
 -- whether declarations are wanted, too; they are unless the message says no
 abbrev pub wants_declarations : Data → Bool
-wants_declarations m = unwrap_or (option_and_then as_bool (pointer (codes "/params/context/includeDeclaration") m)) true
+wants_declarations m = unwrap_or (flag_at (codes "/params/context/includeDeclaration") m) true
 
 -- the position of a line and a character, if both are there
 abbrev pub position_of : Option ℕ → Option ℕ → Option Position

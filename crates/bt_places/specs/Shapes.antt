@@ -16,14 +16,14 @@ diagnostic d =
     no_members))))
 
 -- its parameters: the diagnostics of a document
-abbrev pub published_params : List ℕ → List Data → Data
-published_params uri list =
+abbrev pub publication_params : List ℕ → List Data → Data
+publication_params uri list =
     object (member (codes "diagnostics") (array (items_of list))
     (member (codes "uri") (text uri) no_members))
 
 -- the notification that publishes them
-abbrev pub published : List ℕ → List Data → Data
-published uri list = notification (codes "textDocument/publishDiagnostics") (published_params uri list)
+abbrev pub publication : List ℕ → List Data → Data
+publication uri list = notification (codes "textDocument/publishDiagnostics") (publication_params uri list)
 
 -- what a hover shows, in a format of the protocol
 abbrev pub contents : List ℕ → List ℕ → Data

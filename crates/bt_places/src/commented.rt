@@ -6,7 +6,7 @@
 ghost use Rattle.std.specs.Prelude.{◌≡◌, ◌≤◌, false, length, IfOk};
 ghost use Rattle.std.specs.List.{suffix_len, before_first};
 ghost use Rattle.bt_text.specs.ByteTests.{is_line_feed};
-ghost use Rattle.bt_places.specs.Commented.{is_in_line, has_comment, line_before, is_commented, comment_of, spot_after, shown_byte, closed};
+ghost use Rattle.bt_places.specs.Commented.{is_in_line, has_comment, line_before, is_commented, comment_of, spot_after, shown_byte, without_open_comments};
 
 use bt_mentions::{is_citing, part};
 use bt_text::Bytes;
@@ -110,8 +110,8 @@ fn shown_byte(spot: Spot, byte: u8) -> u8
 }
 
 /// A text of LaTeX with blanks for each comment that leaves a citation open.
-pub fn closed(alloc: Global, text: &[u8]) -> Result<Bytes, AllocError>
-    ensures { IfOk result (λ made. made ≡ closed text.now) }
+pub fn without_open_comments(alloc: Global, text: &[u8]) -> Result<Bytes, AllocError>
+    ensures { IfOk result (λ made. made ≡ without_open_comments text.now) }
 {
     let mut made = Vec::new(alloc);
     let mut spot = Spot::Text;

@@ -16,8 +16,15 @@ pub struct Editor<'a> {
     pub counting: Counting,
 }
 
+/// A paper, and the editor that works on it.
+#[derive(Drop)]
+pub struct Workspace<'a, P> {
+    pub paper: &'a P,
+    pub editor: Editor<'a>,
+}
+
 impl Editor<'_> {
-    /// How positions in a file count: as its document does if it is open, else as the editor does.
+    /// The units of positions in a file: its document's if it is open, else the editor's.
     pub fn counting_in(&self, uri: &[u8]) -> Counting
         ensures { result ≡ counting_in self.now.counting self.now.documents.now uri.now }
     {

@@ -16,8 +16,8 @@ mod shapes;
 mod visiting;
 mod words;
 
-pub use commented::{closed, is_commented};
-pub use editor::Editor;
+pub use commented::{is_commented, without_open_comments};
+pub use editor::{Editor, Workspace};
 pub use entries::{
     field_of, fields_of, has_extension, is_database, is_style, is_tex, item_around, key_of,
     kind_of, name_of, symbol_kind,
@@ -26,12 +26,12 @@ pub use hover::{hover_at, key_at, keys_at_end, word_of};
 pub use mentioning::{citations_of, is_key, mention_at, mentions_of};
 pub use paper::Paper;
 pub use parameters::{
-    Cursor, cursor_of, document_of, has_word_at, place_of, position_at, text_at, version_at,
-    wants_declarations,
+    Cursor, cursor_of, document_named, document_of, flag_at, has_word_at, place_of, position_at,
+    text_at, version_at, wants_declarations,
 };
 pub use picking::{NamedText, Pick, with_picked};
 pub use shapes::{
-    SHOWN_BYTES, capabilities, diagnostic, diagnostic_values, location, published, range_of,
+    SHOWN_BYTES, capabilities, diagnostic, diagnostic_values, location, publication, range_of,
     shown_status, shown_text,
 };
 pub use visiting::{Visit, is_any, with_files, with_texts, with_value};

@@ -3,7 +3,7 @@
 ghost use Rattle.std.specs.Prelude.{◌≡◌, find, IfOk};
 ghost use Rattle.bt_places.specs.Mentioning.{citations_of, mentions_of, is_key, touches, mention_at};
 
-use crate::commented::closed;
+use crate::commented::without_open_comments;
 use crate::entries::{is_database, is_style, is_tex};
 use crate::parameters::Cursor;
 use bt_mentions::{Mention, Role, citations, mentions};
@@ -21,7 +21,7 @@ pub fn citations_of(
     if !is_tex(name) {
         return citations(alloc, false, text);
     }
-    let text = closed(alloc, text)?;
+    let text = without_open_comments(alloc, text)?;
     let found = citations(alloc, true, text.as_slice())?;
     Ok(found)
 }

@@ -3,7 +3,7 @@
 ghost use Rattle.std.specs.Prelude.{◌≡◌, map, option_map};
 ghost use Rattle.serde_json.specs.View.{view, items_of};
 ghost use Rattle.serde_json.specs.Find.{as_str};
-ghost use Rattle.bt_places.specs.Parameters.{is_word, has_word, has_word_at, text_at, number_at, version_at, wants_declarations, position_at, cursor_of, document_named, document_of, place_of};
+ghost use Rattle.bt_places.specs.Parameters.{is_word, has_word, has_word_at, text_at, number_at, flag_at, version_at, wants_declarations, position_at, cursor_of, document_named, document_of, place_of};
 
 use bt_documents::Document;
 use bt_positions::Position;
@@ -53,17 +53,18 @@ pub fn number_at(value: &Value, path: &str) -> Option<u64>
     value.pointer(path).and_then(Value::as_u64)
 }
 
+/// The boolean at a pointer.
+pub fn flag_at(value: &Value, path: &str) -> Option<bool>
+    ensures { result ≡ flag_at path.now (view value.now) }
+{
+    value.pointer(path).and_then(Value::as_bool)
+}
+
 /// Whether a message about references wants the declarations, too. It does unless it says no.
 pub fn wants_declarations(message: &Value) -> bool
     ensures { result ≡ wants_declarations (view message.now) }
 {
-    match message
-        .pointer("/params/context/includeDeclaration")
-        .and_then(Value::as_bool)
-    {
-        Some(wants) => wants,
-        None => true,
-    }
+    flag_at(message, "/params/context/includeDeclaration").unwrap_or(true)
 }
 
 /// The integer at a pointer; 0 if there is none.

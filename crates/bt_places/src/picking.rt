@@ -59,7 +59,7 @@ fn with_all<K: Pick>(
     Ok(all)
 }
 
-/// Adds what is added for the mentions of a file of at most 1 GiB.
+/// Adds the values for each mention of a file, if the file has at most 1 GiB.
 pub fn with_picked<K: Pick>(
     alloc: Global,
     picker: &K,

@@ -4,7 +4,7 @@ ghost use Rattle.std.specs.Prelude.{◌≡◌, map, IfOk, OnOk};
 ghost use Rattle.std.specs.String.{string_bytes};
 ghost use Rattle.serde_json.specs.Data.{object};
 ghost use Rattle.serde_json.specs.View.{view, members_view};
-ghost use Rattle.bt_places.specs.Shapes.{diagnostic, published_params, published, contents, hover, shown_text, shown_status, completion_options, sync_options, choices, with_names, ability_names, abilities, encoding_of, capabilities};
+ghost use Rattle.bt_places.specs.Shapes.{diagnostic, publication_params, publication, contents, hover, shown_text, shown_status, completion_options, sync_options, choices, with_names, ability_names, abilities, encoding_of, capabilities};
 
 use crate::words::{is_utf8, shown};
 use bt_diagnostics::Diagnostic;
@@ -38,8 +38,8 @@ pub fn diagnostic_values(alloc: Global, found: &[Diagnostic]) -> Result<Vec<Valu
     Ok(list)
 }
 
-fn published_params(alloc: Global, uri: &[u8], list: Vec<Value>) -> Result<Value, AllocError>
-    ensures { IfOk result (λ v. view v ≡ published_params uri.now (map view list.items)) }
+fn publication_params(alloc: Global, uri: &[u8], list: Vec<Value>) -> Result<Value, AllocError>
+    ensures { IfOk result (λ v. view v ≡ publication_params uri.now (map view list.items)) }
 {
     let list = Value::Array(list);
     let uri = shown(alloc, uri)?;
@@ -47,10 +47,10 @@ fn published_params(alloc: Global, uri: &[u8], list: Vec<Value>) -> Result<Value
 }
 
 /// The notification that publishes the diagnostics of a document.
-pub fn published(alloc: Global, uri: &[u8], list: Vec<Value>) -> Result<Value, AllocError>
-    ensures { IfOk result (λ v. view v ≡ published uri.now (map view list.items)) }
+pub fn publication(alloc: Global, uri: &[u8], list: Vec<Value>) -> Result<Value, AllocError>
+    ensures { IfOk result (λ v. view v ≡ publication uri.now (map view list.items)) }
 {
-    let params = published_params(alloc, uri, list)?;
+    let params = publication_params(alloc, uri, list)?;
     let message = notification(alloc, "textDocument/publishDiagnostics", &params)?;
     Ok(message)
 }

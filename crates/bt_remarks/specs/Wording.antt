@@ -37,11 +37,11 @@ abbrev pub entry_words : ℕ → ℕ → List (List ℕ) → List ℕ
 entry_words first last names = lines_words first last ++ names_words names
 
 -- a number and what is counted
-abbrev pub counted : ℕ → List ℕ → List ℕ → List ℕ
-counted count one many = decimal count ++ (if count == 1 then one else many)
+abbrev pub count_words : ℕ → List ℕ → List ℕ → List ℕ
+count_words count one many = decimal count ++ (if count == 1 then one else many)
 
 -- over a function: how many pieces it wrote, and in how many entries
 abbrev pub function_words : ℕ → ℕ → List ℕ
 function_words pieces entries =
-    if entries == 0 then codes "writes " ++ counted pieces (codes " piece") (codes " pieces")
-    else codes "writes " ++ counted pieces (codes " piece") (codes " pieces") ++ codes " in " ++ counted entries (codes " entry") (codes " entries")
+    if entries == 0 then codes "writes " ++ count_words pieces (codes " piece") (codes " pieces")
+    else codes "writes " ++ count_words pieces (codes " piece") (codes " pieces") ++ codes " in " ++ count_words entries (codes " entry") (codes " entries")

@@ -1,7 +1,7 @@
 //! The words of a lens: what a run made of an entry or a function.
 
 ghost use Rattle.std.specs.Prelude.{◌≡◌, ◌++◌, map, decimal, IfOk, OnOk};
-ghost use Rattle.bt_remarks.specs.Wording.{counted, lines_words, between, more_names, are_unused, names_from, names_words, entry_words, function_words};
+ghost use Rattle.bt_remarks.specs.Wording.{count_words, lines_words, between, more_names, are_unused, names_from, names_words, entry_words, function_words};
 
 use bt_text::Bytes;
 use itoa::Buffer;
@@ -42,7 +42,6 @@ fn between(rest: &[&[u8]]) -> &'static [u8]
     }
 }
 
-/// Appends the names behind the first one.
 fn add_more_names(words: &mut Bytes, names: &[&[u8]]) -> Result<(), AllocError>
     ensures { OnOk result (words.new ≡ words.old ++ more_names (map (λ name. name.now) names.now)) }
 {
@@ -98,13 +97,13 @@ pub fn entry_words(
     Ok(words)
 }
 
-fn counted(
+fn count_words(
     alloc: Global,
     count: usize,
     one: &'static [u8],
     many: &'static [u8],
 ) -> Result<Bytes, AllocError>
-    ensures { IfOk result (λ words. words ≡ counted count one.now many.now) }
+    ensures { IfOk result (λ words. words ≡ count_words count one.now many.now) }
 {
     let number = digits(alloc, count)?;
     if count == 1 {
@@ -118,11 +117,11 @@ fn counted(
 pub fn function_words(alloc: Global, pieces: usize, entries: usize) -> Result<Bytes, AllocError>
     ensures { IfOk result (λ words. words ≡ function_words pieces entries) }
 {
-    let wrote = counted(alloc, pieces, b" piece", b" pieces")?;
+    let wrote = count_words(alloc, pieces, b" piece", b" pieces")?;
     if entries == 0 {
         return Bytes::of(alloc, &[b"writes ", wrote.as_slice()]);
     }
-    let among = counted(alloc, entries, b" entry", b" entries")?;
+    let among = count_words(alloc, entries, b" entry", b" entries")?;
     Bytes::of(
         alloc,
         &[b"writes ", wrote.as_slice(), b" in ", among.as_slice()],

@@ -27,7 +27,7 @@ use Rattle.bt_style_text.specs.Renaming.{rename}
 use Rattle.bt_style_text.specs.Hover.{hover_of}
 use Rattle.bt_effects.specs.Words.{with_notes}
 use Rattle.bt_style_answers.specs.declared.references.Lent.{Lent}
-use Rattle.bt_style_answers.specs.References.{mark_location, maybe_location, definition_at, asked_of, references_at, meant, with_mark, with_declaration}
+use Rattle.bt_style_answers.specs.References.{mark_location, maybe_location, definition_at, asked_of, references_at, lent_declaration, with_mark, with_declaration}
 use Rattle.bt_style_answers.specs.Hovering.{shown_words, hover_at}
 use Rattle.bt_style_answers.specs.Outline.{symbol_of, symbols_in}
 use Rattle.bt_style_text.specs.Hinting.{unused, declarations}
@@ -56,7 +56,7 @@ mark_plain c uri words list (Some m) p = all_both IsPlain list (mark_location c 
 
 pub declaration_plain : (c : Counting) (uri words : List ℕ) (lent : Lent) (name : List ℕ) (list : List Data) → AllByRecursion IsPlain list →
     AllByRecursion IsPlain (with_declaration c uri words lent name list)
-declaration_plain c uri words lent name list p = mark_plain c uri words list (meant words (marks_of words) lent name) p
+declaration_plain c uri words lent name list p = mark_plain c uri words list (lent_declaration words (marks_of words) lent name) p
 
 -- ---- hover
 

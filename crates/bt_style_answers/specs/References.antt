@@ -50,18 +50,18 @@ is_meant _ _ = false
 abbrev pub is_declared : List ℕ → Lent → List ℕ → Mark → Bool
 is_declared words lent name m = is_meant lent m.role && is_same_folded (part m.start m.end words) name
 
-abbrev pub declared : List ℕ → List Mark → Lent → List ℕ → Option Mark
-declared words marks lent name = find (is_declared words lent name) marks
+abbrev pub declaration_named : List ℕ → List Mark → Lent → List ℕ → Option Mark
+declaration_named words marks lent name = find (is_declared words lent name) marks
 
 -- the type of entries whose own has no function
 abbrev pub or_default : List ℕ → List Mark → Lent → Option Mark → Option Mark
 or_default words marks lent (Some m) = Some m
-or_default words marks Function None = declared words marks Function (codes "default.type")
+or_default words marks Function None = declaration_named words marks Function (codes "default.type")
 or_default words marks Macro None = None
 
 -- where a style declares what a database uses by a name
-abbrev pub meant : List ℕ → List Mark → Lent → List ℕ → Option Mark
-meant words marks lent name = or_default words marks lent (declared words marks lent name)
+abbrev pub lent_declaration : List ℕ → List Mark → Lent → List ℕ → Option Mark
+lent_declaration words marks lent name = or_default words marks lent (declaration_named words marks lent name)
 
 abbrev pub with_mark : Counting → List ℕ → List ℕ → List Data → Option Mark → List Data
 with_mark c uri words list None = list
@@ -69,4 +69,4 @@ with_mark c uri words list (Some m) = list ++ mark_location c uri words m ∷ []
 
 -- a list with the place where a style declares what a database uses by a name, if it does
 abbrev pub with_declaration : Counting → List ℕ → List ℕ → Lent → List ℕ → List Data → List Data
-with_declaration c uri words lent name list = with_mark c uri words list (meant words (marks_of words) lent name)
+with_declaration c uri words lent name list = with_mark c uri words list (lent_declaration words (marks_of words) lent name)

@@ -24,11 +24,11 @@ abbrev pub edit_of : Counting → List ℕ → List ℕ → Mark → Data
 edit_of c words new mark = text_edit (range_of c words mark.start mark.end) new
 
 -- the edits of one file
-abbrev pub changed : List ℕ → List Data → Data
-changed uri edits = workspace_edit (file_edit uri edits ∷ [])
+abbrev pub file_changes : List ℕ → List Data → Data
+file_changes uri edits = workspace_edit (file_edit uri edits ∷ [])
 
 abbrev pub edits_or_refusal : Counting → List ℕ → List ℕ → List ℕ → Result (List Mark) RenameRefusal → Result Data RenameRefusal
-edits_or_refusal c uri words new (Ok marks) = Ok (changed uri (map (edit_of c words new) marks))
+edits_or_refusal c uri words new (Ok marks) = Ok (file_changes uri (map (edit_of c words new) marks))
 edits_or_refusal c uri words new (Err refusal) = Err refusal
 
 -- the edits that give the name at a position a new one, or why it can't have this one

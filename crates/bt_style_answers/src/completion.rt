@@ -144,7 +144,7 @@ impl Written {
         Ok(all)
     }
 
-    fn offered(
+    fn offered_items(
         &self,
         alloc: Global,
         text: &[u8],
@@ -193,7 +193,7 @@ impl ShownStyle<'_> {
     {
         let text = self.text.as_slice();
         let written = self.written_at(marks, place);
-        let value = written.offered(alloc, text, marks, place)?;
+        let value = written.offered_items(alloc, text, marks, place)?;
         Ok(value)
     }
 

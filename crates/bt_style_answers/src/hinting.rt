@@ -138,7 +138,7 @@ fn likely_among(alloc: Global, text: &[u8], marks: &[Mark], word: Word) -> Resul
 }
 
 impl ShownStyle<'_> {
-    /// The name that is probably meant by a word, if nothing declares that; otherwise empty.
+    /// The name that is probably meant by a word that nothing declares; empty if the style declares it.
     pub fn likely_at(&self, alloc: Global, word: Word) -> Result<Bytes, AllocError>
         ensures { IfOk result (λ name. name ≡ likely_at self.now.text.now word) }
     {

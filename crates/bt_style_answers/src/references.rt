@@ -2,7 +2,7 @@
 
 ghost use Rattle.std.specs.Prelude.{◌≡◌, map, IfOk};
 ghost use Rattle.serde_json.specs.View.{view};
-ghost use Rattle.bt_style_answers.specs.References.{mark_location, maybe_location, definition_at, asked_of, references_at, is_meant, is_declared, declared, meant, with_mark, with_declaration};
+ghost use Rattle.bt_style_answers.specs.References.{mark_location, maybe_location, definition_at, asked_of, references_at, is_meant, is_declared, declaration_named, lent_declaration, with_mark, with_declaration};
 
 use crate::shown_style::ShownStyle;
 use bt_positions::Position;
@@ -36,8 +36,8 @@ fn is_declared(text: &[u8], lent: Lent, name: &[u8], mark: Mark) -> bool
     is_meant(lent, mark.role) && eq_ignore_ascii_case(part(text, mark.start, mark.end), name)
 }
 
-fn declared(text: &[u8], marks: &[Mark], lent: Lent, name: &[u8]) -> Option<Mark>
-    ensures { result ≡ declared text.now marks.now lent name.now }
+fn declaration_named(text: &[u8], marks: &[Mark], lent: Lent, name: &[u8]) -> Option<Mark>
+    ensures { result ≡ declaration_named text.now marks.now lent name.now }
 {
     marks
         .iter()
@@ -46,13 +46,13 @@ fn declared(text: &[u8], marks: &[Mark], lent: Lent, name: &[u8]) -> Option<Mark
 }
 
 /// Where a style declares what a database uses by this name. A type without a function means `default.type`.
-fn meant(text: &[u8], marks: &[Mark], lent: Lent, name: &[u8]) -> Option<Mark>
-    ensures { result ≡ meant text.now marks.now lent name.now }
+fn lent_declaration(text: &[u8], marks: &[Mark], lent: Lent, name: &[u8]) -> Option<Mark>
+    ensures { result ≡ lent_declaration text.now marks.now lent name.now }
 {
-    match declared(text, marks, lent, name) {
+    match declaration_named(text, marks, lent, name) {
         Some(mark) => Some(mark),
         None => match lent {
-            Lent::Function => declared(text, marks, lent, b"default.type"),
+            Lent::Function => declaration_named(text, marks, lent, b"default.type"),
             Lent::Macro => None,
         },
     }
@@ -165,7 +165,7 @@ impl ShownStyle<'_> {
     {
         let text = self.text.as_slice();
         let marks = marks_of(alloc, text)?;
-        let found = meant(text, marks.as_slice(), lent, name);
+        let found = lent_declaration(text, marks.as_slice(), lent, name);
         let all = self.with_mark(alloc, list, found)?;
         Ok(all)
     }

@@ -2,7 +2,7 @@
 
 ghost use Rattle.std.specs.Prelude.{◌≡◌, map, IfOk};
 ghost use Rattle.serde_json.specs.View.{view};
-ghost use Rattle.bt_style_answers.specs.Renaming.{refused_or, edit_of, changed, edits_or_refusal, rename_at, range_or_refusal, renamed_range_at};
+ghost use Rattle.bt_style_answers.specs.Renaming.{refused_or, edit_of, file_changes, edits_or_refusal, rename_at, range_or_refusal, renamed_range_at};
 
 use crate::shown_style::ShownStyle;
 use bt_positions::Position;
@@ -12,9 +12,8 @@ use bt_text::Sequence;
 use serde_json::Value;
 use std::alloc::{AllocError, Global};
 
-/// The edits of one file.
-fn changed(alloc: Global, uri: &[u8], edits: Vec<Value>) -> Result<Value, AllocError>
-    ensures { IfOk result (λ v. view v ≡ changed uri.now (map view edits.items)) }
+fn file_changes(alloc: Global, uri: &[u8], edits: Vec<Value>) -> Result<Value, AllocError>
+    ensures { IfOk result (λ v. view v ≡ file_changes uri.now (map view edits.items)) }
 {
     let edit = file_edit(alloc, uri, edits)?;
     let files = with_value(Vec::new(alloc), edit)?;
@@ -53,7 +52,7 @@ impl ShownStyle<'_> {
         match renamed {
             Ok(marks) => {
                 let edits = self.edits_of(alloc, new, marks.as_slice())?;
-                let value = changed(alloc, self.uri, edits)?;
+                let value = file_changes(alloc, self.uri, edits)?;
                 Ok(Ok(value))
             }
             Err(refusal) => Ok(Err(refusal)),

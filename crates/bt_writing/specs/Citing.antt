@@ -9,7 +9,7 @@ use Rattle.bt_positions.specs.Positions.{offset_of}
 use Rattle.bt_positions.specs.declared.indexed_text.Position.{Position}
 use Rattle.bt_documents.specs.declared.document.Document.{Document}
 use Rattle.bt_mentions.specs.Citing.{is_citing}
-use Rattle.bt_places.specs.Commented.{closed}
+use Rattle.bt_places.specs.Commented.{without_open_comments}
 use Rattle.bt_places.specs.Entries.{key_of, kind_of, field_of, is_database, is_tex}
 use Rattle.bt_places.specs.Hover.{keys_at_end}
 use Rattle.bt_places.specs.Shapes.{text}
@@ -56,7 +56,7 @@ candidates_in w (f ∷ fs) = candidates_from w f.0 f.1 ++ candidates_in w fs
 
 -- whether keys are cited after the first bytes of a file; what a comment of LaTeX leaves open cites nothing
 abbrev pub cites : List ℕ → List ℕ → Bool
-cites name front = if not (is_tex name) then is_citing front else is_citing (closed front)
+cites name front = if not (is_tex name) then is_citing front else is_citing (without_open_comments front)
 
 -- what is offered at a position of a document: all keys where keys are cited, elsewhere nothing
 abbrev pub citation_at : List (List ℕ × List ℕ) → Document → Position → Data

@@ -337,6 +337,7 @@ fn with_fix(
     Ok(all)
 }
 
+/// The values as an array; null if there are none.
 pub fn array_if_any(list: Vec<Value>) -> Value
     ensures { view result ≡ array_if_any (map view list.items) }
 {

@@ -10,8 +10,8 @@ use crate::written::Written;
 use bt_bib::{PlacedPiece, read_bib};
 use bt_mentions::is_citing;
 use bt_places::{
-    Cursor, Paper, closed, field_of, is_database, is_tex, key_of, keys_at_end, kind_of, shown,
-    with_value,
+    Cursor, Paper, field_of, is_database, is_tex, key_of, keys_at_end, kind_of, shown, with_value,
+    without_open_comments,
 };
 use bt_text::Bytes;
 use serde_json::{Value, json};
@@ -27,7 +27,7 @@ fn append_after(bytes: &mut Bytes, sign: &[u8], text: &[u8]) -> Result<(), Alloc
     bytes.append_all(&[sign, text])
 }
 
-/// What tells an entry apart for a reader; each empty if it has none.
+/// What a reader knows an entry by; each is empty if the entry has none.
 #[derive(Clone, Copy)]
 struct Summary<'a> {
     author: &'a [u8],
@@ -142,7 +142,7 @@ fn cites(alloc: Global, name: &[u8], front: &[u8]) -> Result<bool, AllocError>
     if !is_tex(name) {
         return Ok(is_citing(front));
     }
-    let front = closed(alloc, front)?;
+    let front = without_open_comments(alloc, front)?;
     Ok(is_citing(front.as_slice()))
 }
 

@@ -10,7 +10,7 @@ use bt_answers::{Loan, macro_at};
 use bt_bib::{PlacedPiece, read_bib};
 use bt_mentions::part;
 use bt_places::{
-    Cursor, Editor, Paper, SHOWN_BYTES, is_database, item_around, key_of, kind_of, location,
+    Cursor, Paper, SHOWN_BYTES, Workspace, is_database, item_around, key_of, kind_of, location,
     range_of, with_files, word_of,
 };
 use bt_positions::{Counting, IndexedText};
@@ -58,16 +58,16 @@ fn location_in(
 /// Where the entry of a key begins: in the first of the paper's databases that has it. Null if none has.
 fn found_in<P: Paper>(
     alloc: Global,
-    paper: &P,
-    editor: &Editor<'_>,
+    workspace: &Workspace<'_, P>,
     key: &[u8],
 ) -> Result<Value, AllocError>
     ensures { IfOk result (λ v. view v ≡
-        found_in (counting_in editor.now.counting editor.now.documents.now) key.now (P.shown paper.now).files) }
+        found_in (counting_in workspace.now.editor.counting workspace.now.editor.documents.now) key.now
+        (P.shown workspace.now.paper.now).files) }
 {
-    'files: for n in 0..paper.file_count() {
-        let (uri, text) = paper.file(n);
-        let found = location_in(alloc, editor.counting_in(uri), uri, text, key)?;
+    'files: for n in 0..workspace.paper.file_count() {
+        let (uri, text) = workspace.paper.file(n);
+        let found = location_in(alloc, workspace.editor.counting_in(uri), uri, text, key)?;
         if !found.is_null() {
             return Ok(found);
         }
@@ -77,14 +77,14 @@ fn found_in<P: Paper>(
 
 fn found_at<P: Paper>(
     alloc: Global,
-    paper: &P,
-    editor: &Editor<'_>,
+    workspace: &Workspace<'_, P>,
     cursor: &Cursor<'_>,
 ) -> Result<Value, AllocError>
     ensures { IfOk result (λ v. view v ≡
-        found_at (P.shown paper.now).files editor.now.documents.now editor.now.counting cursor.now.document.now cursor.now.at) }
+        found_at (P.shown workspace.now.paper.now).files workspace.now.editor.documents.now workspace.now.editor.counting
+        cursor.now.document.now cursor.now.at) }
 {
-    let found = found_in(alloc, paper, editor, word_of(cursor))?;
+    let found = found_in(alloc, workspace, word_of(cursor))?;
     Ok(found)
 }
 
@@ -119,36 +119,35 @@ fn type_at(alloc: Global, cursor: &Cursor<'_>) -> Result<Bytes, AllocError>
 /// Where the paper's style declares the function of a type.
 fn type_places<P: Paper>(
     alloc: Global,
-    paper: &P,
-    editor: &Editor<'_>,
+    workspace: &Workspace<'_, P>,
     kind: &[u8],
 ) -> Result<Value, AllocError>
     ensures { IfOk result (λ v. view v ≡
-        type_places (P.shown paper.now).files editor.now.documents.now editor.now.counting kind.now) }
+        type_places (P.shown workspace.now.paper.now).files workspace.now.editor.documents.now workspace.now.editor.counting
+        kind.now) }
 {
     let loan = Loan {
-        editor: *editor,
+        editor: workspace.editor,
         lent: Lent::Function,
         name: kind,
     };
-    let list = with_files(alloc, paper, &loan, Vec::new(alloc))?;
+    let list = with_files(alloc, workspace.paper, &loan, Vec::new(alloc))?;
     Ok(Value::Array(list))
 }
 
 fn typed_or_found<P: Paper>(
     alloc: Global,
-    paper: &P,
-    editor: &Editor<'_>,
+    workspace: &Workspace<'_, P>,
     cursor: &Cursor<'_>,
     kind: &[u8],
 ) -> Result<Value, AllocError>
     ensures { IfOk result (λ v. view v ≡
-        typed_or_found (P.shown paper.now).files editor.now.documents.now editor.now.counting cursor.now.document.now
-        cursor.now.at kind.now) }
+        typed_or_found (P.shown workspace.now.paper.now).files workspace.now.editor.documents.now workspace.now.editor.counting
+        cursor.now.document.now cursor.now.at kind.now) }
 {
     match kind {
-        [] => found_at(alloc, paper, editor, cursor),
-        [_, ..] => type_places(alloc, paper, editor, kind),
+        [] => found_at(alloc, workspace, cursor),
+        [_, ..] => type_places(alloc, workspace, kind),
     }
 }
 
@@ -156,18 +155,18 @@ fn typed_or_found<P: Paper>(
 /// there begins.
 pub fn definition_at<P: Paper>(
     alloc: Global,
-    paper: &P,
-    editor: &Editor<'_>,
+    workspace: &Workspace<'_, P>,
     cursor: &Cursor<'_>,
 ) -> Result<Value, AllocError>
     ensures { IfOk result (λ v. view v ≡
-        definition_at (P.shown paper.now).files editor.now.documents.now editor.now.counting cursor.now.document.now cursor.now.at) }
+        definition_at (P.shown workspace.now.paper.now).files workspace.now.editor.documents.now workspace.now.editor.counting
+        cursor.now.document.now cursor.now.at) }
 {
-    match macro_at(alloc, paper, editor, cursor)? {
+    match macro_at(alloc, workspace, cursor)? {
         Some(found) => Ok(found),
         None => {
             let kind = type_at(alloc, cursor)?;
-            let found = typed_or_found(alloc, paper, editor, cursor, kind.as_slice())?;
+            let found = typed_or_found(alloc, workspace, cursor, kind.as_slice())?;
             Ok(found)
         }
     }

@@ -144,8 +144,8 @@ impl StyleText<'_> {
         })
     }
 
-    /// Whether a mark declares a function for a type of entries. The style doesn't tell: each function can be one. We take
-    /// those whose names have no dot and no dollar, and which nothing names but functions that do nothing else.
+    /// Whether a mark declares a function for a type of entries. A style doesn't say which functions are for types. We take
+    /// those whose names have neither a dot nor a dollar sign, and that only functions that do nothing else call.
     pub fn is_type(&self, mark: Mark) -> bool
         ensures { result ≡ is_type self.now.text.now self.now.marks.now mark }
     {

@@ -36,6 +36,7 @@ fn names_at_end(text: &[u8]) -> usize
     count
 }
 
+/// Whether a text has a `{` or a `(`.
 pub fn has_opening(text: &[u8]) -> bool
     ensures { result ≡ list_any is_opening text.now }
 {

@@ -14,23 +14,23 @@ use Rattle.bt_places.specs.Editor.{counting_in}
 use Rattle.bt_places.specs.Entries.{is_database}
 use Rattle.bt_edited.specs.declared.edits.Edit.{Edit}
 use Rattle.bt_edited.specs.declared.changes.Change.TheVariants.{Nothing}
-use Rattle.bt_edited.specs.Edits.{edited}
+use Rattle.bt_edited.specs.Edits.{text_after_edits}
 use Rattle.bt_edited.specs.Becomes.{is_made}
 use Rattle.bt_edited.proofs.laws.Laws.{made_pieces_are_changed}
 use Rattle.bt_answers.specs.EditValues.{edit_values}
 use Rattle.bt_answers.specs.Formatting.{layout_edits, if_kept}
 use Rattle.bt_answers.specs.declared.references.Wanted.{Wanted}
-use Rattle.bt_answers.specs.Renaming.{renamed_text, change_of, is_renamed, also_renamed, are_renamed, renamed, can_be_named, is_free, is_defined}
+use Rattle.bt_answers.specs.Renaming.{renamed_text, change_of, is_renamed, also_renamed, are_renamed, rename_edit, can_be_named, is_free, is_defined}
 use Rattle.bt_answers.specs.laws.Laws.{KeepsItems, FormattingKeepsItems, ChangesNames, RenamesChangeNames}
 
-kept_by : (d : Document) (es : List Edit) (o : Option (List ℕ)) → edited d.counting es d.text ≡ o → (is : Bool) → is_made Nothing (pieces_of d.text) o ≡ is →
+kept_by : (d : Document) (es : List Edit) (o : Option (List ℕ)) → text_after_edits d.counting es d.text ≡ o → (is : Bool) → is_made Nothing (pieces_of d.text) o ≡ is →
     (cond is (array (items_of (edit_values es))) null ≡ null) ⊎ KeepsItems d (cond is (array (items_of (edit_values es))) null)
 kept_by d es o e false h = inl refl
 kept_by d es None e true h = absurd (false≢true h)
 kept_by d es (Some after) e true h = inr (record { edits = es; after = after; sent = refl; makes = e; keeps = made_pieces_are_changed.kept d.text after h })
 
 kept : (d : Document) (es : List Edit) → (if_kept d (pieces_of d.text) es ≡ null) ⊎ KeepsItems d (if_kept d (pieces_of d.text) es)
-kept d es = kept_by d es (edited d.counting es d.text) refl (is_made Nothing (pieces_of d.text) (edited d.counting es d.text)) refl
+kept d es = kept_by d es (text_after_edits d.counting es d.text) refl (is_made Nothing (pieces_of d.text) (text_after_edits d.counting es d.text)) refl
 
 unless : (d : Document) (b : Bool) (v : Data) → (v ≡ null) ⊎ KeepsItems d v → (cond b null v ≡ null) ⊎ KeepsItems d (cond b null v)
 unless d true v k = inl refl
@@ -84,7 +84,7 @@ ok_is u v h = cc
 pub renames_change_names : RenamesChangeNames
 renames_change_names = record {
   renaming = λ files docs c wanted old new v h.
-      let all = Ok (renamed files docs c wanted old new) in
+      let all = Ok (rename_edit files docs c wanted old new) in
       let exact = cond (not (are_renamed files docs c wanted old new)) (Err InexactRename) all in
       let defined = cond (not (is_defined files docs c wanted old)) (Err UndefinedMacro) exact in
       let free = cond (not (is_free files docs c wanted old new)) (Err TakenName) defined in
@@ -92,5 +92,5 @@ renames_change_names = record {
       let h2 = unless_error (is_free files docs c wanted old new) TakenName defined v h1.1 in
       let h3 = unless_error (is_defined files docs c wanted old) UndefinedMacro exact v h2.1 in
       let h4 = unless_error (are_renamed files docs c wanted old new) InexactRename all v h3.1 in
-      (ok_is (renamed files docs c wanted old new) v h4.1, (all_changed (counting_in c docs) wanted old new files true h4.0).1);
+      (ok_is (rename_edit files docs c wanted old new) v h4.1, (all_changed (counting_in c docs) wanted old new files true h4.0).1);
 }

@@ -13,7 +13,7 @@ use Rattle.bt_bib.specs.BibText.{pieces_of}
 use Rattle.bt_edited.specs.declared.changes.Change.{Change}
 use Rattle.bt_edited.specs.declared.changes.Change.TheVariants.{Nothing, Key, Macro}
 use Rattle.bt_edited.specs.declared.edits.Edit.{Edit}
-use Rattle.bt_edited.specs.Edits.{edited}
+use Rattle.bt_edited.specs.Edits.{text_after_edits}
 use Rattle.bt_edited.specs.Becomes.{is_made}
 
 abbrev position : ℕ → ℕ → Position
@@ -28,13 +28,13 @@ becomes change before after = is_made change (pieces_of before) (Some after)
 
 -- ---- edits
 
-edits_rise : edited Utf16 (edit (position 0 1) (position 0 1) (codes "x") ∷ edit (position 0 1) (position 1 0) (codes ";") ∷ []) (codes "ab\nc") ≡ Some (codes "ax;c")
+edits_rise : text_after_edits Utf16 (edit (position 0 1) (position 0 1) (codes "x") ∷ edit (position 0 1) (position 1 0) (codes ";") ∷ []) (codes "ab\nc") ≡ Some (codes "ax;c")
 edits_rise = refl
 
-edits_overlap : edited Utf16 (edit (position 0 0) (position 0 2) (codes "x") ∷ edit (position 0 1) (position 0 2) (codes "y") ∷ []) (codes "abc") ≡ None
+edits_overlap : text_after_edits Utf16 (edit (position 0 0) (position 0 2) (codes "x") ∷ edit (position 0 1) (position 0 2) (codes "y") ∷ []) (codes "abc") ≡ None
 edits_overlap = refl
 
-ends_before_it_begins : edited Utf16 (edit (position 0 2) (position 0 1) (codes "x") ∷ []) (codes "abc") ≡ None
+ends_before_it_begins : text_after_edits Utf16 (edit (position 0 2) (position 0 1) (codes "x") ∷ []) (codes "abc") ≡ None
 ends_before_it_begins = refl
 
 -- ---- layout

@@ -8,7 +8,7 @@ use Rattle.bt_answers.proofs.references.macro_at.Goals as goal
 pub returns : goal.returns
 returns g c =
     let one = c.in-Some.one in
-    let editor = c.args.editor.now in
-    found_macro (g.P.Paper.shown c.args.paper.now).files editor.documents.now editor.counting c.args.cursor.now.document.now one (mention_at c.args.cursor.now.document.now c.args.cursor.now.at)
+    let editor = c.args.workspace.now.editor in
+    found_macro (g.P.Paper.shown c.args.workspace.now.paper.now).files editor.documents.now editor.counting c.args.cursor.now.document.now one (mention_at c.args.cursor.now.document.now c.args.cursor.now.at)
     c.part-name.result.now (view c.in_ok-found.found) (sym c.in-Some.is ∙ c.in_ok-one.ensures) (sym c.is_key.ensures ∙ c.if-is_key.false)
     (c.part-name.ensures.value ∙ ap (part one.from one.to) c.as_slice.ensures) c.in_ok-found.ensures

@@ -8,8 +8,8 @@ use Rattle.bt_answers.proofs.renaming.rename_at.Goals as goal
 
 pub returns : goal.returns
 returns g c =
-    let files = (g.P.Paper.shown c.args.paper.now).files in
-    let editor = c.args.editor.now in
+    let files = (g.P.Paper.shown c.args.workspace.now.paper.now).files in
+    let editor = c.args.workspace.now.editor in
     let document = c.args.cursor.now.document.now in
     let one = c.in-Some-2.one in
     let free = c.in_ok-outcome.ensures ∙

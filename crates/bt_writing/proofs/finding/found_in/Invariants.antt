@@ -5,5 +5,5 @@ use Rattle.bt_writing.proofs.finding.found_in.Given as goal
 
 abbrev pub invariant-files : goal.invariant-files
 invariant-files g l =
-    let files = (g.P.Paper.shown l.paper).files in
-    found_in (counting_in l.editor.counting l.editor.documents.now) l.key (drop l.n files) ≡ found_in (counting_in l.editor.counting l.editor.documents.now) l.key files
+    let files = (g.P.Paper.shown l.workspace.paper.now).files in
+    found_in (counting_in l.workspace.editor.counting l.workspace.editor.documents.now) l.key (drop l.n files) ≡ found_in (counting_in l.workspace.editor.counting l.workspace.editor.documents.now) l.key files

@@ -1,7 +1,7 @@
 use Rattle.std.proofs.Common.{◌≡◌, drop}
 use Rattle.std.specs.List.{fold}
 use Rattle.bt_edited.specs.Edits.{draft_after}
-use Rattle.bt_edited.proofs.edits.edited.Given as goal
+use Rattle.bt_edited.proofs.edits.text_after_edits.Given as goal
 
 abbrev pub invariant-edits : goal.invariant-edits
 invariant-edits l =

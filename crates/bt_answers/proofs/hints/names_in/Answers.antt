@@ -1,7 +1,7 @@
 use Rattle.std.proofs.Common.{ℕ, List, refl, arith}
 use Rattle.bt_answers.specs.Hints.{with_file_names}
 use Rattle.bt_places.proofs.FileLemmas.{fold_file, fold_no_file}
-use Rattle.bt_answers.proofs.hints.collected.Goals as goal
+use Rattle.bt_answers.proofs.hints.names_in.Goals as goal
 
 pub files-preserved : goal.files-preserved
 files-preserved g c =

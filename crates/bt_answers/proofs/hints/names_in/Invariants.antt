@@ -1,6 +1,6 @@
 use Rattle.std.proofs.Common.{◌≡◌, [], drop}
 use Rattle.bt_answers.specs.Hints.{with_all_names}
-use Rattle.bt_answers.proofs.hints.collected.Given as goal
+use Rattle.bt_answers.proofs.hints.names_in.Given as goal
 
 abbrev pub invariant-files : goal.invariant-files
 invariant-files g l =
