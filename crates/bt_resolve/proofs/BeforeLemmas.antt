@@ -1,6 +1,7 @@
 -- The macros before an item, read from the strings before it.
-use Rattle.std.proofs.Common.{◌≡◌, ◌∙◌, ap, sym, refl, subst, ℕ, suc, ◌+◌, ◌<◌, ◌≤◌, List, [], ◌∷◌, ◌++◌, length, map, take, drop, reverse, get_or, append-nil, take-append-drop, Some, arith}
+use Rattle.std.proofs.Common.{◌≡◌, ◌∙◌, ap, sym, refl, subst, ℕ, suc, ◌+◌, ◌<◌, ◌≤◌, List, [], ◌∷◌, ◌++◌, length, map, take, drop, reverse, get_or, append-nil, take-append-drop, Some, arith, inl, inr}
 use Rattle.std.specs.Prelude.{slice_get}
+use Rattle.std.proofs.lemmas.Bool.{cases_lt}
 use Rattle.std.proofs.lemmas.List.{drop_all, drop_more, map-append}
 use Rattle.bt_bib.specs.Items.{PlacedItem, items_of}
 use Rattle.bt_bib.specs.declared.placed_pieces.PlacedPiece.{PlacedPiece}
@@ -95,3 +96,26 @@ macros_kept ms ds k n d here none later =
     ∙ macros_both at first last
     ∙ none (macros_after at first)
     ∙ macros_then ms (reverse fronts) first
+
+-- ---- no strings from a place on
+
+-- the property holds one place before, too
+free_by : (Free : ℕ → Type 0) (size k place : ℕ) → ((i : ℕ) → size ≤ i + k → Free i) → place + (k + 1) ≡ size → (Free (place + 1) → Free place) → (i : ℕ) → size ≤ i + (k + 1) → Free i
+free_by Free size k place rest sum one i far = elim (cases_lt place i) [
+  | inl behind ↦ rest i (omega (arith, behind, sum))
+  | inr there ↦
+      let same : place ≡ i = omega (arith, there, sum, far) in
+      subst Free same (one (rest (place + 1) (omega (arith, sum))))
+]
+
+pub pieces_free : (ps : List PlacedPiece) (k place : ℕ) (p : PlacedPiece) → ((i : ℕ) → length ps ≤ i + k → DefineNothing (items_of (drop i ps))) → place + (k + 1) ≡ length ps → p ≡ get_or ps place p → DefineNothing (items_of (p ∷ [])) →
+    (i : ℕ) → length ps ≤ i + (k + 1) → DefineNothing (items_of (drop i ps))
+pieces_free ps k place p rest sum is one =
+    free_by (λ i. DefineNothing (items_of (drop i ps))) (length ps) k place rest sum
+    (nothing_at place ps p (omega (arith, sum)) is one)
+
+pub databases_free : (ds : List (List PlacedPiece)) (k number : ℕ) (d : List PlacedPiece) → ((i : ℕ) → length ds ≤ i + k → DefineNothing (all_items (map items_of (drop i ds)))) → number + (k + 1) ≡ length ds → d ≡ get_or ds number d →
+    DefineNothing (items_of d) → (i : ℕ) → length ds ≤ i + (k + 1) → DefineNothing (all_items (map items_of (drop i ds)))
+databases_free ds k number d rest sum is one =
+    free_by (λ i. DefineNothing (all_items (map items_of (drop i ds)))) (length ds) k number rest sum
+    (all_nothing_at number ds d (omega (arith, sum)) is one)

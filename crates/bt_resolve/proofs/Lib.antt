@@ -22,6 +22,9 @@ pub mod PatchLemmas
 pub mod BeforeLemmas
 pub mod KeptParts
 pub mod KeptLemmas
+pub mod KnownEntryLemmas
+pub mod EarlierLemmas
 pub mod PartLemmas
+pub mod ApartLemmas
 pub mod laws
 mod rows

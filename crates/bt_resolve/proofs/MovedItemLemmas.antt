@@ -100,7 +100,7 @@ type_told : (m : Spot) (function : Option ℕ) (o : Origin) (line : ℕ) (key : 
 type_told m None o line key = ap (λ (place : Place). type_messages None place key) (line_moved m o line)
 type_told m (Some function) o line key = refl
 
-entry_told : (a : Asked) (macros : MacroTexts) (m : Spot) (o : Origin) (line : ℕ) (e : Entry) (key : List ℕ) → stored_messages a macros (moved_origin m o) line e key ≡ map (moved_message m) (stored_messages a macros o line e key)
+pub entry_told : (a : Asked) (macros : MacroTexts) (m : Spot) (o : Origin) (line : ℕ) (e : Entry) (key : List ℕ) → stored_messages a macros (moved_origin m o) line e key ≡ map (moved_message m) (stored_messages a macros o line e key)
 unfolding stored_messages
 entry_told a macros m o line e key =
     (λ j. type_told m (place_of_name a.types (kind_of e)) o line key j ++ fields_told m a.fields macros o key [] e.fields j)

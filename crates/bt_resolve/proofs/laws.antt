@@ -1,4 +1,3 @@
 -- Only laws need these.
 pub mod LawLemmas
-pub mod ApartLemmas
 pub mod Laws

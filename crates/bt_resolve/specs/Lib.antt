@@ -10,6 +10,7 @@ pub mod Listed
 pub mod Inherited
 pub mod References
 pub mod Resolved
+pub mod Apart
 pub mod Skeletons
 pub mod Edited
 pub mod inner

@@ -15,3 +15,5 @@ pub mod Reaches
 pub mod Patches
 pub mod Heirs
 pub mod Kept
+pub mod KnownEntries
+pub mod Earlier

@@ -5,15 +5,21 @@
 //! tables of what the items so far have yielded. `specs/inner/Databases.antt` says how one more item changes it, and
 //! `proofs/PlacingLemmas.antt` proves that this is what the definitions say about an item at its place.
 
-ghost use Rattle.std.specs.Prelude.{◌≡◌, ◌∷◌, [], IfOk, IsTrue, OnOk, map};
+ghost use Rattle.std.specs.Prelude.{◌≡◌, ◌+◌, ◌∷◌, [], List, ℕ, Some, IfOk, IfSome, IsTrue, OnOk, map, slice_get};
 ghost use Rattle.bt_bib.specs.BibText.{pieces_of};
 ghost use Rattle.bt_bib.specs.Items.{items_of};
+ghost use Rattle.bt_bib.specs.declared.placed_pieces.PlacedPiece.{PlacedPiece as PieceSeen};
 ghost use Rattle.bt_text.specs.NameList.{are_apart};
 ghost use Rattle.bt_resolve.specs.inner.Databases.{after_content, after_databases, after_item, after_items, nothing_read, state_of};
+ghost use Rattle.bt_resolve.specs.declared.asked.Asked.{Asked as AskedSeen};
+ghost use Rattle.bt_resolve.specs.inner.Earlier.{IsEarlier, IsKnowing};
+ghost use Rattle.bt_resolve.specs.inner.KnownEntries.{KnowsContent, KnowsPiece};
 ghost use Rattle.bt_resolve.specs.inner.Reaches.{database_reaches, reaches};
 
 use crate::asked::Asked;
 use crate::declared::Macro;
+use crate::earlier::{Earlier, KnownPieces};
+use crate::known_entry::KnownEntry;
 use crate::macros::style_macros;
 use crate::place::Origin;
 use crate::reader::Reader;
@@ -23,9 +29,11 @@ use bt_bib::{Content, Items, Piece, PieceCursor, PlacedPiece};
 use bt_text::{Bytes, Sequence, Shared};
 use std::alloc::{AllocError, Global};
 
-impl Reader<'_> {
+impl Reader<'_, '_> {
     fn content(&self, reading: &mut Reading) -> Result<(), AllocError>
-        requires { IsTrue (are_apart self.now.asked.now.fields) }
+        requires fields { IsTrue (are_apart self.now.asked.now.fields) }
+        requires known { IfSome self.now.known (KnowsContent self.now.asked.now self.now.origin.database
+            self.now.item.now.line self.now.item.now.content) }
         ensures { OnOk result (state_of reading.new
             ≡ after_content self.now.asked.now self.now.origin self.now.item.now (state_of reading.old)) }
     {
@@ -44,7 +52,9 @@ impl Reader<'_> {
 
     #[tactic(auto, unfolding(crate::specs::Messages::item_messages))]
     fn item(&self, reading: &mut Reading) -> Result<(), AllocError>
-        requires { IsTrue (are_apart self.now.asked.now.fields) }
+        requires fields { IsTrue (are_apart self.now.asked.now.fields) }
+        requires known { IfSome self.now.known (KnowsContent self.now.asked.now self.now.origin.database
+            self.now.item.now.line self.now.item.now.content) }
         ensures { OnOk result (state_of reading.new
             ≡ after_item self.now.asked.now self.now.origin self.now.end self.now.item.now (state_of reading.old)) }
     {
@@ -53,55 +63,91 @@ impl Reader<'_> {
     }
 }
 
-fn read_piece(
+/// What a database is read with.
+#[derive(Clone, Copy, Drop)]
+struct DatabaseReader<'a> {
     alloc: Global,
-    asked: &Asked<'_>,
+    asked: &'a Asked<'a>,
+    /// Its number, from 1.
     database: usize,
-    piece: &PlacedPiece,
-    reading: &mut Reading,
-) -> Result<(), AllocError>
-    requires { IsTrue (are_apart asked.now.fields) }
-    ensures { OnOk result (state_of reading.new
-        ≡ after_items asked.now database (state_of reading.old) (items_of (piece.now ∷ []))) }
-{
-    match &*piece.piece {
-        Piece::Comment => Ok(()),
-        Piece::Item(item) => {
-            let reader = Reader {
-                alloc,
-                asked: &*asked,
-                item,
-                origin: Origin {
-                    database,
-                    line: piece.start.line,
-                },
-                end: piece.end,
-            };
-            reader.item(reading)
+}
+
+impl DatabaseReader<'_> {
+    fn piece(
+        &self,
+        piece: &PlacedPiece,
+        known: Option<KnownEntry<'_>>,
+        reading: &mut Reading,
+    ) -> Result<(), AllocError>
+        requires fields { IsTrue (are_apart self.now.asked.now.fields) }
+        requires known { IfSome known (KnowsPiece self.now.asked.now self.now.database piece.now.piece) }
+        ensures { OnOk result (state_of reading.new ≡ after_items self.now.asked.now self.now.database
+            (state_of reading.old) (items_of (piece.now ∷ []))) }
+    {
+        match &*piece.piece {
+            Piece::Comment => Ok(()),
+            Piece::Item(item) => {
+                let reader = Reader {
+                    alloc: self.alloc,
+                    asked: self.asked,
+                    item,
+                    origin: Origin {
+                        database: self.database,
+                        line: piece.start.line,
+                    },
+                    end: piece.end,
+                    known,
+                };
+                reader.item(reading)
+            }
         }
+    }
+
+    /// Reads the pieces of the database, and returns how far the reading was before each one and after the last.
+    fn pieces(
+        &self,
+        pieces: &[PlacedPiece],
+        earlier: Option<KnownPieces<'_>>,
+        reading: &mut Reading,
+    ) -> Result<Sequence<Reach>, AllocError>
+        requires fields { IsTrue (are_apart self.now.asked.now.fields) }
+        requires known { IfSome earlier (IsKnowing self.now.asked.now self.now.database pieces.now) }
+        ensures read { OnOk result (state_of reading.new ≡ after_items self.now.asked.now self.now.database
+            (state_of reading.old) (items_of pieces.now)) }
+        ensures reaches { IfOk result (λ all. all
+            ≡ reaches self.now.asked.now self.now.database (state_of reading.old) pieces.now) }
+    {
+        let mut all = Sequence::new(self.alloc);
+        'pieces: for k in 0..pieces.len() {
+            all.push(reading.so_far())?;
+            let known = known_entry(earlier, k);
+            self.piece(&pieces[k], known, reading)?;
+        }
+        all.push(reading.so_far())?;
+        Ok(all)
     }
 }
 
-/// Reads the pieces of a database, and returns how far the reading was before each one and after the last.
-fn read_pieces(
-    alloc: Global,
-    asked: &Asked<'_>,
-    database: usize,
-    pieces: &[PlacedPiece],
-    reading: &mut Reading,
-) -> Result<Sequence<Reach>, AllocError>
-    requires { IsTrue (are_apart asked.now.fields) }
-    ensures read { OnOk result (state_of reading.new
-        ≡ after_items asked.now database (state_of reading.old) (items_of pieces.now)) }
-    ensures reaches { IfOk result (λ all. all ≡ reaches asked.now database (state_of reading.old) pieces.now) }
+fn known_entry(earlier: Option<KnownPieces<'_>>, index: usize) -> Option<KnownEntry<'_>>
+    ensures { IfSome result (λ known. (a : AskedSeen) (database : ℕ) (new : List PieceSeen) (p : PieceSeen) →
+        IfSome earlier.entry (IsKnowing a database new) → slice_get new index ≡ Some p →
+        KnowsPiece a database p.piece known) }
 {
-    let mut all = Sequence::new(alloc);
-    'pieces: for piece in pieces {
-        all.push(reading.so_far())?;
-        read_piece(alloc, asked, database, piece, reading)?;
+    match &earlier {
+        None => None,
+        Some(earlier) => earlier.entry(index),
     }
-    all.push(reading.so_far())?;
-    Ok(all)
+}
+
+fn known_pieces(earlier: Option<Earlier<'_>>, number: usize) -> Option<KnownPieces<'_>>
+    ensures { IfSome result (λ known. (a : AskedSeen) (databases : List (List PieceSeen)) (new : List PieceSeen) →
+        IfSome earlier.entry (IsEarlier a databases) → slice_get databases number ≡ Some new →
+        IsKnowing a (number + 1) new known) }
+{
+    match &earlier {
+        None => None,
+        Some(earlier) => earlier.pieces(number),
+    }
 }
 
 /// What is known before the first item.
@@ -121,9 +167,11 @@ pub fn read_databases(
     alloc: Global,
     asked: &Asked<'_>,
     databases: &[Shared<Items>],
+    earlier: Option<Earlier<'_>>,
     reading: &mut Reading,
 ) -> Result<Sequence<Sequence<Reach>>, AllocError>
-    requires { IsTrue (are_apart asked.now.fields) }
+    requires fields { IsTrue (are_apart asked.now.fields) }
+    requires earlier { IfSome earlier (IsEarlier asked.now databases.now) }
     ensures read { OnOk result (state_of reading.new ≡ after_databases asked.now 1 (state_of reading.old)
         (map items_of databases.now)) }
     ensures reaches { IfOk result (λ all. all
@@ -132,7 +180,13 @@ pub fn read_databases(
     let mut all = Sequence::new(alloc);
     'databases: for i in 0..databases.len() {
         let database = &databases[i];
-        let reaches = read_pieces(alloc, asked, i + 1, database.pieces(), reading)?;
+        let known = known_pieces(earlier, i);
+        let reader = DatabaseReader {
+            alloc,
+            asked: &*asked,
+            database: i + 1,
+        };
+        let reaches = reader.pieces(database.pieces(), known, reading)?;
         all.push(reaches)?;
     }
     Ok(all)
@@ -151,11 +205,16 @@ fn read_text(
         ≡ after_items asked.now database (state_of reading.old) (items_of (pieces_of text.now))) }
 {
     let mut left = PieceCursor::of(alloc, text)?;
+    let reader = DatabaseReader {
+        alloc,
+        asked: &*asked,
+        database,
+    };
     'pieces: loop {
         let next = left.next()?;
         match next {
             None => return Ok(()),
-            Some(piece) => read_piece(alloc, asked, database, &piece, reading)?,
+            Some(piece) => reader.piece(&piece, None, reading)?,
         }
     }
 }

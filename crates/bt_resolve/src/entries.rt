@@ -1,6 +1,6 @@
 //! Reading entries: which are stored, and as what.
 
-ghost use Rattle.std.specs.Prelude.{◌≡◌, ◌++◌, IfOk, IsTrue, OnOk};
+ghost use Rattle.std.specs.Prelude.{◌≡◌, ◌++◌, Some, IfOk, IfSome, IsTrue, OnOk};
 ghost use Rattle.bt_text.specs.ByName.{known};
 ghost use Rattle.bt_text.specs.CaseFolding.{folded};
 ghost use Rattle.bt_resolve.specs.inner.Slots.{given_by};
@@ -9,6 +9,7 @@ ghost use Rattle.bt_resolve.specs.inner.Cases.{type_messages, with_entry};
 ghost use Rattle.bt_text.specs.NameList.{are_apart};
 ghost use Rattle.bt_resolve.specs.Stored.{is_wanted, kind_of, stored_of};
 ghost use Rattle.bt_resolve.specs.Warnings.{line_at};
+ghost use Rattle.bt_resolve.specs.inner.KnownEntries.{KnowsEntry};
 ghost use Rattle.bt_resolve.specs.inner.Readers.{messages_of_entry, messages_of_given, messages_of_stored};
 
 use crate::faults::repeated;
@@ -59,7 +60,7 @@ fn with_given(
     })
 }
 
-impl Reader<'_> {
+impl Reader<'_, '_> {
     fn is_wanted(&self, store: &Store, key: &[u8]) -> Result<bool, AllocError>
         ensures { IfOk result (λ wanted. wanted ≡ is_wanted self.now.asked.now store.now key.now) }
     {
@@ -133,6 +134,34 @@ impl Reader<'_> {
         with_given(self.alloc, key, kind, function, given)
     }
 
+    /// The same, from an earlier resolution if it is known there.
+    fn known_or_stored(
+        &self,
+        entry: &Entry,
+        key: &Shared<Bytes>,
+        macros: &ByName<MacroText>,
+        messages: &mut Sequence<Message>,
+    ) -> Result<Stored, AllocError>
+        requires fields { IsTrue (are_apart self.now.asked.now.fields) }
+        requires key { entry.now.key ≡ Some key.now }
+        requires known { IfSome self.now.known (KnowsEntry self.now.asked.now self.now.origin.database
+            self.now.item.now.line entry.now) }
+        ensures key { IfOk result (λ stored. stored.key ≡ key.now) }
+        ensures stored { IfOk result (λ stored. stored ≡ stored_of self.now.asked.now (known macros.now)
+            entry.now key.now) }
+        ensures messages { OnOk result (messages.new ≡ messages.old
+            ++ messages_of_stored self.now (known macros.now) entry.now key.now) }
+    {
+        let Some(earlier) = &self.known else {
+            return self.stored(entry, key, macros, messages);
+        };
+        let same = earlier.are_same_fields(self.alloc, entry.fields.as_slice(), macros)?;
+        if !same {
+            return self.stored(entry, key, macros, messages);
+        }
+        earlier.share()
+    }
+
     /// Reads an entry: it is stored if it is the first wanted one of its key.
     pub fn entry(
         &self,
@@ -141,7 +170,9 @@ impl Reader<'_> {
         store: &mut Store,
         messages: &mut Sequence<Message>,
     ) -> Result<(), AllocError>
-        requires { IsTrue (are_apart self.now.asked.now.fields) }
+        requires fields { IsTrue (are_apart self.now.asked.now.fields) }
+        requires known { IfSome self.now.known (KnowsEntry self.now.asked.now self.now.origin.database
+            self.now.item.now.line entry.now) }
         ensures store { OnOk result (store.new ≡ with_entry self.now.asked.now (known macros.now)
             entry.now entry.now.key store.old) }
         ensures messages { OnOk result (messages.new ≡ messages.old
@@ -157,7 +188,7 @@ impl Reader<'_> {
             let place = self.origin.place(self.item.line);
             return add_message(messages, repeated(self.alloc, place, key)?);
         }
-        let stored = self.stored(entry, key, macros, messages)?;
+        let stored = self.known_or_stored(entry, key, macros, messages)?;
         store.push(self.alloc, stored)
     }
 }

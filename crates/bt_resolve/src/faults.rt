@@ -104,7 +104,7 @@ fn key_of(content: &Content) -> Result<Option<Shared<Bytes>>, AllocError>
     }
 }
 
-impl Reader<'_> {
+impl Reader<'_, '_> {
     fn fault_error(&self, fault: ItemFault) -> Result<Message, AllocError>
         ensures { IfOk result (λ message. message ≡ fault_error self.now.origin.database self.now.end
             self.now.item.now.content self.now.item.now.close fault) }

@@ -13,12 +13,14 @@ ghost use Rattle.std.specs.Prelude.{◌≡◌, ◌+◌, ◌++◌, ◌^◌, ◌<�
 ghost use Rattle.bt_bib.specs.Items.{items_of};
 ghost use Rattle.bt_text.specs.ByName.{known};
 ghost use Rattle.bt_text.specs.NameList.{are_apart};
+ghost use Rattle.bt_resolve.specs.inner.Earlier.{AreEdited, IsEarlier};
 ghost use Rattle.bt_resolve.specs.inner.Kept.{IsAround, IsEditOf, IsFound, IsNewSpan, IsPlace, AreBefore, IsResolvedEdit, IsSpanEdit, asked_by, found_of, mark_of, resolved_for, with_database};
 ghost use Rattle.bt_resolve.specs.References.{list_messages};
 ghost use Rattle.bt_resolve.specs.inner.Inheritance.{seen_of};
 
 use crate::asked::Asked;
 use crate::databases::{nothing_read, read_databases};
+use crate::earlier::{Earlier, EditedDatabase};
 use crate::entry::{Entry, Resolved};
 use crate::family::Family;
 use crate::inheritance::values_read;
@@ -222,26 +224,37 @@ pub fn found_in(
     Ok(found)
 }
 
-fn find_asked(alloc: Global, asked: &Asked<'_>, question: &Question) -> Result<Found, AllocError>
+fn find_asked(
+    alloc: Global,
+    asked: &Asked<'_>,
+    question: &Question,
+    earlier: Option<Earlier<'_>>,
+) -> Result<Found, AllocError>
     requires fields { IsTrue (are_apart question.now.declared.fields) }
     requires star { IfSome question.now.cites.star (λ before. before ≤ length question.now.cites.keys) }
     requires asked { asked.now ≡ asked_by question.now }
+    requires earlier { IfSome earlier (IsEarlier asked.now question.now.databases) }
     ensures { IfOk result (λ found. IsFound question.now found) }
 {
     let mut read = nothing_read(alloc, question.declared.macros.as_slice())?;
     let databases = question.databases.as_slice();
-    let reaches = read_databases(alloc, asked, databases, &mut read)?;
+    let reaches = read_databases(alloc, asked, databases, earlier, &mut read)?;
     let found = found_in(alloc, asked, question.min, read, reaches)?;
     Ok(found)
 }
 
-fn find(alloc: Global, question: &Question) -> Result<Found, AllocError>
+fn find(
+    alloc: Global,
+    question: &Question,
+    earlier: Option<Earlier<'_>>,
+) -> Result<Found, AllocError>
     requires fields { IsTrue (are_apart question.now.declared.fields) }
     requires star { IfSome question.now.cites.star (λ before. before ≤ length question.now.cites.keys) }
+    requires earlier { IfSome earlier (IsEarlier (asked_by question.now) question.now.databases) }
     ensures { IfOk result (λ found. IsFound question.now found) }
 {
     let asked = Asked::for_all(alloc, &question.declared, &question.cites)?;
-    find_asked(alloc, &asked, question)
+    find_asked(alloc, &asked, question, earlier)
 }
 
 impl Resolution {
@@ -251,7 +264,26 @@ impl Resolution {
         requires star { IfSome question.cites.star (λ before. before ≤ length question.cites.keys) }
         ensures { IfOk result (λ kept. kept ≡ question) }
     {
-        let found = find(alloc, &question)?;
+        let found = find(alloc, &question, None)?;
+        Ok(Resolution { question, found })
+    }
+
+    /// The same as `of`, for a question after this one: with the same declarations, and with the same databases, except
+    /// that one may be edited. Entries that this resolution stored aren't read again, if their macros stand for the
+    /// same. The only error is out of memory.
+    pub fn after(
+        &self,
+        alloc: Global,
+        question: Question,
+        edited: Option<EditedDatabase>,
+    ) -> Result<Resolution, AllocError>
+        requires star { IfSome question.cites.star (λ before. before ≤ length question.cites.keys) }
+        requires declared { question.declared ≡ self.now.declared }
+        requires databases { AreEdited self.now edited question.databases }
+        ensures { IfOk result (λ kept. kept ≡ question) }
+    {
+        let earlier = Earlier::new(&self.question, &self.found, edited);
+        let found = find(alloc, &question, Some(earlier))?;
         Ok(Resolution { question, found })
     }
 

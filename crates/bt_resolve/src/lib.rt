@@ -4,6 +4,7 @@
 mod asked;
 mod databases;
 mod declared;
+mod earlier;
 mod entries;
 mod entry;
 mod family;
@@ -14,6 +15,7 @@ mod index;
 mod inheritance;
 mod joined_parts;
 mod kept;
+mod known_entry;
 mod list;
 mod macro_text;
 mod macros;
@@ -37,6 +39,7 @@ mod view;
 mod warnings;
 
 pub use declared::{Cites, Declared, Macro};
+pub use earlier::{EditedDatabase, KeptPieces};
 pub use entry::{Entry, Resolved};
 pub use heirs::NewValues;
 pub use kept::{Resolution, ResolvedEdit};

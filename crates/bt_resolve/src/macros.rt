@@ -38,7 +38,7 @@ fn faultless<'a>(item: &Item, parts: &'a Option<ValueParts>) -> Option<&'a Value
     }
 }
 
-impl Reader<'_> {
+impl Reader<'_, '_> {
     /// Reads a string: its macro is defined, unless the item has a fault.
     pub fn string(
         &self,

@@ -5,7 +5,7 @@
 //! items, which a resolution keeps. Otherwise the strings before the item are defined again, which costs a look-up and a
 //! joined text for each.
 
-ghost use Rattle.std.specs.Prelude.{◌≡◌, ◌++◌, ◌∷◌, [], false, map, reverse, IfOk, IsTrue, OnOk};
+ghost use Rattle.std.specs.Prelude.{◌≡◌, ◌≤◌, ◌++◌, ◌∷◌, [], ℕ, drop, false, map, reverse, IfOk, IsTrue, OnOk};
 ghost use Rattle.bt_bib.specs.Items.{items_of};
 ghost use Rattle.bt_text.specs.ByName.{known};
 ghost use Rattle.bt_resolve.specs.Macros.{macro_before};
@@ -23,7 +23,7 @@ use bt_bib::{Content, Items, Piece, PlacedPiece};
 use bt_text::{ByName, Sequence, Shared};
 use std::alloc::{AllocError, Global};
 
-impl Reader<'_> {
+impl Reader<'_, '_> {
     /// Defines the macro of the item, if it is a string. Its messages aren't kept.
     fn define(&self, macros: &mut ByName<MacroText>) -> Result<(), AllocError>
         ensures { OnOk result (known macros.new
@@ -60,6 +60,7 @@ fn define_piece(
                     line: piece.start.line,
                 },
                 end: piece.end,
+                known: None,
             };
             reader.define(macros)
         }
@@ -118,6 +119,19 @@ pub fn define_nothing(pieces: &[PlacedPiece]) -> bool
         }
     }
     true
+}
+
+/// The index behind the last string.
+pub fn strings_end(pieces: &[PlacedPiece]) -> usize
+    ensures { (k : ℕ) → result ≤ k → DefineNothing (items_of (drop k pieces.now)) }
+{
+    'pieces: for k in 0..pieces.len() {
+        let place = pieces.len() - 1 - k;
+        if is_string(&pieces[place]) {
+            return place + 1;
+        }
+    }
+    0
 }
 
 pub fn have_no_strings(databases: &[Shared<Items>]) -> bool

@@ -52,7 +52,7 @@ fn tells(mark: Mark) -> bool
     mark.stored || mark.told == 0
 }
 
-impl Reader<'_> {
+impl Reader<'_, '_> {
     fn entry_by(
         &self,
         is_stored: bool,
@@ -149,6 +149,7 @@ impl SpanReader<'_> {
                 line: piece.start.line,
             },
             end: piece.end,
+            known: None,
         };
         reader.item_by(self.mark, self.macros, &mut span)?;
         Ok(Some(span))

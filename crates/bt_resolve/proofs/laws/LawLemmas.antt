@@ -2,7 +2,6 @@
 use Rattle.std.proofs.Common.{◌≡◌, ◌∙◌, ap, sym, refl, append_assoc, append-nil, ℕ, zero, suc, Bool, true, false, List, [], ◌∷◌, ◌++◌, reverse, Option, Some, None}
 use Rattle.std.specs.Prelude.{◌==◌, ◌&&◌, not, slice_get, option_and_then, if◌then◌else◌}
 use Rattle.std.specs.List.{AllByRecursion}
-use Rattle.bt_text.specs.CaseFolding.{is_same_folded}
 use Rattle.bt_bib.specs.Items.{PlacedItem}
 use Rattle.bt_bib.specs.declared.item.Content.{Content}
 use Rattle.bt_bib.specs.declared.item.Content.TheVariants as contents
@@ -17,48 +16,11 @@ use Rattle.bt_resolve.specs.Listed.{place_of_key, parent_of}
 use Rattle.bt_resolve.specs.Inherited.{values_after}
 use Rattle.bt_resolve.specs.inner.Cases.{inherits, with_entry, with_item}
 use Rattle.bt_resolve.specs.Resolved.{resolved, stored_entries, all_items}
-use Rattle.bt_resolve.proofs.FieldLemmas.{or_false}
-use Rattle.bt_resolve.specs.laws.Laws.{MessagesForEachMin, WantedInTurn, StoredAreWanted, KeysApart, StoredKeysApart, NothingInherited}
+use Rattle.bt_resolve.specs.laws.Laws.{MessagesForEachMin, WantedInTurn, StoredAreWanted, NothingInherited}
 
 pub same_messages : MessagesForEachMin
 unfolding resolved
 same_messages d c databases m n = refl
-
--- ---- no two stored keys match
-
-apart_last : (s t : Stored) (ss : List Stored) → is_same_folded s.key t.key ≡ false → AllByRecursion (λ (u : Stored). is_same_folded s.key u.key ≡ false) ss → AllByRecursion (λ (u : Stored). is_same_folded s.key u.key ≡ false) (ss ++ t ∷ [])
-apart_last s t [] h hs = (h, tt)
-apart_last s t (u ∷ us) h hs = (hs.0, apart_last s t us h hs.1)
-
-apart_push : (ss : List Stored) (t : Stored) → KeysApart ss → is_stored ss t.key ≡ false → KeysApart (ss ++ t ∷ [])
-apart_push [] t h new = (tt, tt)
-apart_push (s ∷ ss) t h new =
-    let both : (is_same_folded s.key t.key ≡ false) × (is_stored ss t.key ≡ false) = or_false (is_same_folded s.key t.key) (is_stored ss t.key) new in
-    (apart_last s t ss both.0 h.0, apart_push ss t h.1 both.1)
-
-apart_test : (wanted : Bool) (again : Bool) (ss : List Stored) (t : Stored) → KeysApart ss → is_stored ss t.key ≡ again → KeysApart (if wanted && not again then ss ++ t ∷ [] else ss)
-apart_test true true ss t h is = h
-apart_test true false ss t h is = apart_push ss t h is
-apart_test false again ss t h is = h
-
-apart_entry : (a : Asked) (macros : MacroTexts) (e : Entry) (key : Option (List ℕ)) (ss : List Stored) → KeysApart ss → KeysApart (with_entry a macros e key ss)
-unfolding stored_of
-apart_entry a macros e None ss h = h
-apart_entry a macros e (Some key) ss h = apart_test (is_wanted a ss key) (is_stored ss key) ss (stored_of a macros e key) h refl
-
-apart_item : (a : Asked) (macros : MacroTexts) (content : Content) (ss : List Stored) → KeysApart ss → KeysApart (with_item a macros content ss)
-apart_item a macros (contents.Entry e) ss h = apart_entry a macros e e.key ss h
-apart_item a macros (contents.Define s) ss h = h
-apart_item a macros (contents.Preamble p) ss h = h
-
-apart_among : (a : Asked) (ms : List Macro) (before : List PlacedItem) → KeysApart (stored_among a ms before)
-unfolding stored_among
-apart_among a ms [] = tt
-apart_among a ms (placed ∷ before) = apart_item a (macro_before ms before) placed.item.content (stored_among a ms before) (apart_among a ms before)
-
-pub stored_apart : StoredKeysApart
-unfolding stored_entries
-stored_apart a ms databases = apart_among a ms (reverse (all_items databases))
 
 -- ---- each stored entry is wanted
 

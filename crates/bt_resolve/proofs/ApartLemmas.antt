@@ -7,19 +7,62 @@ use Rattle.std.proofs.lemmas.Bool.{cases_Bool}
 use Rattle.std.proofs.lemmas.Bool.Decides.{Decides-eqb}
 use Rattle.std.proofs.lemmas.List.Folds.{list_any-append}
 use Rattle.bt_text.specs.CaseFolding.{folded, is_same_folded}
+use Rattle.bt_bib.specs.Items.{PlacedItem}
+use Rattle.bt_bib.specs.declared.item.Content.{Content}
+use Rattle.bt_bib.specs.declared.item.Content.TheVariants as contents
+use Rattle.bt_bib.specs.declared.item.Entry.{Entry as ItemEntry}
 use Rattle.bt_resolve.specs.declared.asked.Asked.{Asked}
+use Rattle.bt_resolve.specs.declared.declared.Macro.{Macro}
+use Rattle.bt_resolve.specs.Macros.{macro_before}
+use Rattle.bt_resolve.specs.Values.{MacroTexts}
+use Rattle.bt_resolve.specs.Stored.{stored_of, is_wanted, is_stored, stored_among}
 use Rattle.bt_resolve.specs.declared.entry.Entry.{Entry}
 use Rattle.bt_resolve.specs.declared.stored.Stored.{Stored}
 use Rattle.bt_text.specs.NameList.{has_name, are_apart}
 use Rattle.bt_resolve.specs.Names.{place_of_name}
 use Rattle.bt_resolve.specs.Listed.{place_of_key, is_cited_at, is_among, firsts, uncited_parents, listed}
-use Rattle.bt_resolve.specs.inner.Cases.{cited_places, entry_at, parents, is_cited, others_than, listed_by, asked}
+use Rattle.bt_resolve.specs.inner.Cases.{cited_places, entry_at, parents, is_cited, others_than, listed_by, asked, with_entry, with_item}
 use Rattle.bt_resolve.specs.Inherited.{key_spelled, entry_seen, entries_seen, is_left_out, values_after}
-use Rattle.bt_resolve.specs.laws.Laws.{KeysApart, EntriesApart}
-use Rattle.bt_resolve.specs.Resolved.{resolved, stored_entries}
+use Rattle.bt_resolve.specs.Apart.{KeysApart, StoredKeysApart, EntriesApart}
+use Rattle.bt_resolve.specs.Resolved.{resolved, stored_entries, all_items}
 use Rattle.bt_resolve.proofs.FieldLemmas.{same_at, same_back, has_alike, some_zero, some_suc, before_suc, value_or, or_false, and_true}
-use Rattle.bt_resolve.proofs.laws.LawLemmas.{stored_apart}
 use Rattle.bt_resolve.proofs.ListLemmas.{same_some}
+
+-- ---- no two stored keys match
+
+apart_last : (s t : Stored) (ss : List Stored) → is_same_folded s.key t.key ≡ false → AllByRecursion (λ (u : Stored). is_same_folded s.key u.key ≡ false) ss → AllByRecursion (λ (u : Stored). is_same_folded s.key u.key ≡ false) (ss ++ t ∷ [])
+apart_last s t [] h hs = (h, tt)
+apart_last s t (u ∷ us) h hs = (hs.0, apart_last s t us h hs.1)
+
+apart_push : (ss : List Stored) (t : Stored) → KeysApart ss → is_stored ss t.key ≡ false → KeysApart (ss ++ t ∷ [])
+apart_push [] t h new = (tt, tt)
+apart_push (s ∷ ss) t h new =
+    let both : (is_same_folded s.key t.key ≡ false) × (is_stored ss t.key ≡ false) = or_false (is_same_folded s.key t.key) (is_stored ss t.key) new in
+    (apart_last s t ss both.0 h.0, apart_push ss t h.1 both.1)
+
+apart_test : (wanted : Bool) (again : Bool) (ss : List Stored) (t : Stored) → KeysApart ss → is_stored ss t.key ≡ again → KeysApart (if wanted && not again then ss ++ t ∷ [] else ss)
+apart_test true true ss t h is = h
+apart_test true false ss t h is = apart_push ss t h is
+apart_test false again ss t h is = h
+
+apart_entry : (a : Asked) (macros : MacroTexts) (e : ItemEntry) (key : Option (List ℕ)) (ss : List Stored) → KeysApart ss → KeysApart (with_entry a macros e key ss)
+unfolding stored_of
+apart_entry a macros e None ss h = h
+apart_entry a macros e (Some key) ss h = apart_test (is_wanted a ss key) (is_stored ss key) ss (stored_of a macros e key) h refl
+
+apart_item : (a : Asked) (macros : MacroTexts) (content : Content) (ss : List Stored) → KeysApart ss → KeysApart (with_item a macros content ss)
+apart_item a macros (contents.Entry e) ss h = apart_entry a macros e e.key ss h
+apart_item a macros (contents.Define s) ss h = h
+apart_item a macros (contents.Preamble p) ss h = h
+
+apart_among : (a : Asked) (ms : List Macro) (before : List PlacedItem) → KeysApart (stored_among a ms before)
+unfolding stored_among
+apart_among a ms [] = tt
+apart_among a ms (placed ∷ before) = apart_item a (macro_before ms before) placed.item.content (stored_among a ms before) (apart_among a ms before)
+
+pub stored_apart : StoredKeysApart
+unfolding stored_entries
+stored_apart a ms databases = apart_among a ms (reverse (all_items databases))
 
 -- ---- keys of stored entries at two places
 
