@@ -122,7 +122,7 @@ impl Session {
         Ok(self.replace(state, run))
     }
 
-    /// Goes to a state in which one file alone has another text. If the style sees nothing of that, nothing is run.
+    /// Goes to a state in which one file alone has another text.
     fn go_over(&mut self, name: &[u8], state: State) -> Result<Report, Refusal>
         requires once { EachOnce state.texts }
         requires root { state.root ≡ self.old.root }
@@ -141,7 +141,7 @@ impl Session {
             root: state.root.as_slice(),
             min: state.min,
         };
-        if let Some(report) = self.run.report_unseen(change)? {
+        if let Some(report) = self.run.follow(change)? {
             drop(mem::replace(&mut self.state, state));
             return Ok(report);
         }

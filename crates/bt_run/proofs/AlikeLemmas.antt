@@ -66,7 +66,7 @@ edited_texts kept now alike texts after put makes =
 
 -- what READ leaves is what it found
 
-blank_fixed : (p : Program) (es : List FoundEntry) (n : ℕ) → fixed_at (map (with_blank_variables p) es) n ≡ found_at es n
+pub blank_fixed : (p : Program) (es : List FoundEntry) (n : ℕ) → fixed_at (map (with_blank_variables p) es) n ≡ found_at es n
 blank_fixed p [] n = refl
 blank_fixed p (e ∷ es) zero = refl
 blank_fixed p (e ∷ es) (suc n) = blank_fixed p es n

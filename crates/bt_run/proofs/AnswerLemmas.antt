@@ -35,7 +35,6 @@ use Rattle.bt_run.specs.Kept.{named_text, style_text, run_work, report_after}
 use Rattle.bt_run.proofs.WorkLemmas.{work_none, work_first}
 use Rattle.bt_run.proofs.EarlierLemmas.{nothing_found, same_none}
 use Rattle.bt_run.proofs.TurnLemmas.{none_in_turn, none_left, calls_begun}
-use Rattle.bt_run.proofs.LinkLemmas.{none_last}
 use Rattle.bt_run.proofs.MarkLemmas.{none_marked}
 use Rattle.bt_run.specs.ReadCommand.{Job}
 use Rattle.bt_run.specs.Commands.{commands_from}
@@ -66,8 +65,6 @@ begun_consistent p earlier w s calls empty h are before =
       called = calls_begun earlier.steps s.reuse.next s.steps calls h.8 none are;
       found = rw h.10 (nothing_found s.resolution w.entries);
       found_before = before;
-      lasts = none_last w s.steps s.lasts h.11;
-      origins = none_last w earlier.steps s.origins h.12;
     }
 
 -- a run's end

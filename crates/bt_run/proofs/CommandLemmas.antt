@@ -1,7 +1,6 @@
 -- READ and SORT keep what a run keeps to.
-use Rattle.std.proofs.Common.{◌≡◌, ap, subst, sym, ℕ, Bool, true, false, List, Option, None, length, map}
+use Rattle.std.proofs.Common.{◌≡◌, ap, subst, sym, ℕ, Bool, true, false, List, Option, length, map}
 use Rattle.bt_style.specs.Program.{Program}
-use Rattle.bt_actions.specs.declared.entry.Entry.{Entry}
 use Rattle.bt_actions.specs.declared.entry.Variables.{Variables}
 use Rattle.bt_log.specs.declared.message.Message.{Message}
 use Rattle.bt_run.specs.declared.course.Course.{Course}
@@ -22,14 +21,13 @@ use Rattle.bt_run.specs.inner.Asked.{question_for}
 use Rattle.bt_run.specs.inner.Found.{IsKept}
 use Rattle.bt_run.proofs.AlikeLemmas.{found_read}
 use Rattle.bt_run.proofs.EarlierLemmas.{nothing_found}
-use Rattle.bt_run.proofs.LinkLemmas.{nowhere_last}
 use Rattle.bt_run.proofs.MarkLemmas.{bare_marked}
 use Rattle.bt_run.proofs.OrderLemmas.{arranged_range}
 use Rattle.bt_run.proofs.SortingLemmas.{arranged_sorted}
 use Rattle.bt_run.proofs.TurnLemmas.{left_alike, given_alike}
 
-pub read_consistent : (p : Program) (earlier : Kept) (job : Job) (number : ℕ) (r back : Course) (s : KeptSteps) (resolution : Option KeptResolution) (marks : List Mark) (lasts origins : List (Option ℕ)) (same : List Bool) → back ≡ read job number r → marks ≡ map bare_mark s.steps → lasts ≡ map (λ (e : Entry). None) back.entries → origins ≡ map (λ (e : Entry). None) back.entries → AreSame earlier.entries back.entries same → IsKept resolution (question_for job number) → IsConsistent p earlier (course_world r) s → IsConsistent p earlier (course_world back) (record s { resolution = resolution; is_own = true; is_earlier = false; marks = marks; lasts = lasts; origins = origins; same = same })
-read_consistent p earlier job number r back s resolution marks lasts origins same is are_bare no_lasts no_origins are_same about h =
+pub read_consistent : (p : Program) (earlier : Kept) (job : Job) (number : ℕ) (r back : Course) (s : KeptSteps) (resolution : Option KeptResolution) (marks : List Mark) (same : List Bool) → back ≡ read job number r → marks ≡ map bare_mark s.steps → AreSame earlier.entries back.entries same → IsKept resolution (question_for job number) → IsConsistent p earlier (course_world r) s → IsConsistent p earlier (course_world back) (record s { resolution = resolution; is_own = true; is_earlier = false; marks = marks; same = same })
+read_consistent p earlier job number r back s resolution marks same is are_bare are_same about h =
     let globals = ap (λ (c : Course). c.globals) is in
     let held = ap (λ (c : Course). c.held) is in
     rw are_bare (record {
@@ -42,8 +40,6 @@ read_consistent p earlier job number r back s resolution marks lasts origins sam
       called = h.called;
       found = found_read resolution job number r back about is;
       found_before = nothing_found resolution earlier.entries;
-      lasts = nowhere_last (course_world back) s.steps lasts back.entries no_lasts;
-      origins = nowhere_last (course_world back) earlier.steps origins back.entries no_origins;
     })
 
 pub read_ordered : (job : Job) (number : ℕ) (r next : Course) → next ≡ read job number r → IsOrdered next

@@ -1,5 +1,5 @@
 -- A step in the world of all entries, by its outcome on its input alone.
-use Rattle.std.specs.Prelude.{slice_index_or, slice_set, IfSome, IsTrue}
+use Rattle.std.specs.Prelude.{slice_index_or, slice_set, IsTrue}
 use Rattle.std.specs.Option.{ForSome}
 use Rattle.std.proofs.Common.{zero, suc, ◌≡◌, refl, ℕ, ◌+◌, ◌<◌, Bool, List, [], ◌∷◌, ◌++◌, length, All, Option, Some, None, sym, ap, ◌∙◌, subst, arith}
 use Rattle.std.proofs.lemmas.List.{get_or-set_same, set-set, length-set, length-append}
@@ -30,12 +30,10 @@ use Rattle.bt_run.specs.inner.Calls.{AreCallsFrom}
 use Rattle.bt_run.specs.inner.Earlier.{AreSame}
 use Rattle.bt_run.specs.inner.Marks.{step_tag}
 use Rattle.bt_run.specs.inner.Turn.{IsGiven, IsSharedFrom}
-use Rattle.bt_run.specs.inner.Links.{at_entry, with_last}
 use Rattle.bt_run.specs.inner.Work.{IsNext, IsConsistent, IsWork}
 use Rattle.bt_run.proofs.WorkLemmas.{work_append, work_fewer}
 use Rattle.bt_run.proofs.EarlierLemmas.{found_back, same_back}
 use Rattle.bt_run.proofs.TurnLemmas.{in_turn_more, left_more, given_next}
-use Rattle.bt_run.proofs.LinkLemmas.{lasts_more, origins_more}
 use Rattle.bt_run.proofs.MarkLemmas.{marked_more}
 
 -- what a step leaves in the world of its entry alone, or of none
@@ -145,19 +143,6 @@ all_one P y g (suc k) d lt = absurd (omega (arith, lt))
 pub all_behind : {A : Type 0} (P : A → Type 0) (xs : List A) (y : A) → All P xs → P y → All P (xs ++ y ∷ [])
 all_behind P xs y h g = All-append P xs (y ∷ []) h (all_one P y g)
 
--- What becomes of the links by one more step.
-pub record Links : Type 0 where
-  pub link : Option ℕ
-  pub origin : Option ℕ
-  pub lasts : List (Option ℕ)
-  pub origins : List (Option ℕ)
-
-pub record AreMore (x : Option ℕ) (before next : KeptSteps) (shared : Bool) (l : Links) : Type 0 where
-  pub link : IfSome l.link (at_entry next.lasts x)
-  pub origin : IfSome l.origin (λ k. IsTrue shared × (k ≡ before.reuse.next))
-  pub lasts : l.lasts ≡ with_last x (Some (length next.steps)) next.lasts
-  pub origins : l.origins ≡ with_last x l.origin next.origins
-
 -- a step adds its part to the work
 work_behind : (p : Program) (earlier steps : List Step) (s : Step) (before after : Reuse) → IsWork p earlier steps before → IsNext p earlier s before after → IsWork p earlier (steps ++ s ∷ []) after
 work_behind p earlier steps s before after h is_next =
@@ -177,23 +162,18 @@ work_behind p earlier steps s before after h is_next =
     }
 
 -- a step keeps what a run keeps to
-pub consistent_behind : (p : Program) (earlier : Kept) (site : CommandPlace) (t : Target) (x : Option ℕ) (r back : Course) (s : Step) (tag : ℕ) (shared : Bool) (before next : KeptSteps) (steps : List Step) (marks : List Mark) (calls : Option (List ℕ)) (links : Links) → IsConsistent p earlier (course_world r) before → IsPlace x (course_world r) → AreMore x before next shared links → s.input ≡ input_at t x (course_world r) → back ≡ put_back site x s.outcome r → next ≡ record before { reuse = next.reuse } → steps ≡ next.steps ++ s ∷ [] → marks ≡ next.marks ++ record { place = x; tag = tag; previous = links.link } ∷ [] → tag ≡ step_tag s → (IsTrue shared → IsSharedFrom earlier.steps s before.reuse.next next.reuse.next) → ((ss : List Step) → ForSome next.calls (AreCallsFrom earlier.steps before.reuse.next ss) → ForSome calls (AreCallsFrom earlier.steps next.reuse.next (ss ++ s ∷ []))) → IsNext p earlier.steps s before.reuse next.reuse → IsConsistent p earlier (course_world back) (record next { steps = steps; marks = marks; in_step = shared; calls = calls; lasts = links.lasts; origins = links.origins })
-consistent_behind p earlier site t x r back s tag shared before next steps marks calls links h placed joined is_input is_back is_rest are_steps are_marks is_tag in_turn called is_next =
+pub consistent_behind : (p : Program) (earlier : Kept) (site : CommandPlace) (t : Target) (x : Option ℕ) (r back : Course) (s : Step) (tag : ℕ) (shared : Bool) (before next : KeptSteps) (steps : List Step) (marks : List Mark) (calls : Option (List ℕ)) → IsConsistent p earlier (course_world r) before → IsPlace x (course_world r) → s.input ≡ input_at t x (course_world r) → back ≡ put_back site x s.outcome r → next ≡ record before { reuse = next.reuse } → steps ≡ next.steps ++ s ∷ [] → marks ≡ next.marks ++ record { place = x; tag = tag } ∷ [] → tag ≡ step_tag s → (IsTrue shared → IsSharedFrom earlier.steps s before.reuse.next next.reuse.next) → ((ss : List Step) → ForSome next.calls (AreCallsFrom earlier.steps before.reuse.next ss) → ForSome calls (AreCallsFrom earlier.steps next.reuse.next (ss ++ s ∷ []))) → IsNext p earlier.steps s before.reuse next.reuse → IsConsistent p earlier (course_world back) (record next { steps = steps; marks = marks; in_step = shared; calls = calls })
+consistent_behind p earlier site t x r back s tag shared before next steps marks calls h placed is_input is_back is_rest are_steps are_marks is_tag in_turn called is_next =
     let kept_steps : steps ≡ before.steps ++ s ∷ [] = are_steps ∙ ap (λ (k : KeptSteps). k.steps ++ s ∷ []) is_rest in
-    let mark : Mark = record { place = x; tag = tag; previous = links.link } in
+    let mark : Mark = record { place = x; tag = tag } in
     let kept_marks : marks ≡ before.marks ++ mark ∷ [] = are_marks ∙ ap (λ (k : KeptSteps). k.marks ++ mark ∷ []) is_rest in
     let kept_same = ap (λ (k : KeptSteps). k.same) is_rest in
     let kept_calls = ap (λ (k : KeptSteps). k.calls) is_rest in
     let given : IsGiven (course_world r) s.input = record { globals = ap (λ (i : Input). i.globals) is_input; held = ap (λ (i : Input). i.held) is_input } in
     let calls_now = called before.steps (subst (λ (o : Option (List ℕ)). ForSome o (AreCallsFrom earlier.steps before.reuse.next before.steps)) (sym kept_calls) h.called) in
-    let w = course_world r in
-    let v = course_world (put_back site x s.outcome r) in
-    let kept_lasts : links.lasts ≡ with_last x (Some (length before.steps)) before.lasts = joined.lasts ∙ ap (λ (k : KeptSteps). with_last x (Some (length k.steps)) k.lasts) is_rest in
-    let kept_origins : links.origins ≡ with_last x links.origin before.origins = joined.origins ∙ ap (λ (k : KeptSteps). with_last x links.origin k.origins) is_rest in
-    let known = subst (λ (k : KeptSteps). IfSome links.link (at_entry k.lasts x)) is_rest joined.link in
-    rw (kept_marks, kept_steps, kept_lasts, kept_origins, is_back) (record {
+    rw (kept_marks, kept_steps, is_back) (record {
       work = work_behind p earlier.steps before.steps s before.reuse next.reuse h.work is_next;
-      marked = marked_more w before.steps before.marks before.lasts s t x s.outcome.variables tag links.link h.marked h.lasts is_input is_tag known;
+      marked = marked_more (course_world r) before.steps before.marks s t x s.outcome.variables tag h.marked is_input is_tag;
       same = subst (AreSame earlier.entries (variables_back x s.outcome.variables r.entries)) (sym kept_same) (same_back earlier.entries r.entries before.same x s.outcome.variables h.same);
       in_turn = in_turn_more before.steps (course_world r) s h.in_turn h.left given;
       left = left_more before.steps (course_world (put_back site x s.outcome r)) s (record { globals = refl; held = refl });
@@ -201,6 +181,4 @@ consistent_behind p earlier site t x r back s tag shared before next steps marks
       called = calls_now;
       found = subst (λ (k : KeptSteps). AreFoundBy k.is_own k.resolution (variables_back x s.outcome.variables r.entries)) (sym is_rest) (found_back before.is_own before.resolution r.entries x s.outcome.variables h.found);
       found_before = subst (λ (k : KeptSteps). AreFoundBy k.is_earlier k.resolution earlier.entries) (sym is_rest) h.found_before;
-      lasts = lasts_more w v before.steps s t x before.lasts is_input placed refl refl h.lasts;
-      origins = origins_more w v earlier.steps s t x before.origins links.origin shared before.reuse.next next.reuse.next is_input placed refl refl joined.origin in_turn h.origins;
     })

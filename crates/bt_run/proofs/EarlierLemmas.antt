@@ -12,7 +12,7 @@ use Rattle.bt_run.specs.inner.Earlier.{fixed, fixed_at, AreSame}
 
 -- variables are all that a step puts back into an entry
 
-fixed_with : (v : Option Variables) (e : Entry) → fixed (with_variables v e) ≡ fixed e
+pub fixed_with : (v : Option Variables) (e : Entry) → fixed (with_variables v e) ≡ fixed e
 fixed_with None e = refl
 fixed_with (Some v) e = refl
 

@@ -12,10 +12,16 @@ use Rattle.bt_bib.specs.declared.placed_pieces.PlacedPiece.{PlacedPiece}
 use Rattle.bt_bib.specs.declared.splice.ItemsEdit.{ItemsEdit}
 use Rattle.bt_resolve.specs.declared.question.Question.{Question}
 use Rattle.bt_resolve.specs.Resolved.{resolved}
+use Rattle.bt_resolve.specs.declared.earlier.KeptPieces.{KeptPieces}
+use Rattle.bt_resolve.specs.inner.Earlier.{AreEdited, AreKeptPieces}
 use Rattle.bt_resolve.specs.inner.Kept.{IsEditOf, resolved_for, with_database}
 use Rattle.bt_run.specs.ReadCommand.{Job, declared_before, found_for}
 use Rattle.bt_run.specs.inner.Cases.{text_in}
+use Rattle.bt_resolve.proofs.EarlierLemmas.{one_edited}
+use Rattle.bt_resolve.proofs.ListLemmas.{same_some}
 use Rattle.bt_run.specs.declared.asking.Asking.{Asking}
+use Rattle.bt_run.specs.declared.database_edit.DatabaseEdit.{DatabaseEdit}
+use Rattle.bt_run.specs.inner.Edits.{KeepsPieces}
 use Rattle.bt_run.specs.inner.Asked.{question_for, question_of, with_databases}
 
 -- ---- a list with another element in one place
@@ -102,3 +108,15 @@ pub star_within : (a : Asking) (q : Question) → question_of a ≡ q → ForSom
 star_within a q is within =
     subst (λ (r : Question). IfSome r.cites.star (λ before. before ≤ length r.cites.keys)) (sym is)
     (star_before q.cites.star (length q.cites.keys) within)
+
+-- ---- pieces that stay
+
+pub pieces_stay : (q : Question) (number : ℕ) (items : List PlacedPiece) (e : ItemsEdit) (kept : KeptPieces) → IsEditOf q number items e → ((old new : List PlacedPiece) → IsItemsEdit old new e → AreKeptPieces old new kept) →
+    (old : List PlacedPiece) → slice_get q.databases number ≡ Some old → AreKeptPieces old items kept
+pieces_stay q number items e kept of keeps old here = subst (λ (ps : List PlacedPiece). AreKeptPieces ps items kept) (same_some of.old old (sym of.here ∙ here)) (keeps of.old items of.edit)
+
+pub texts_edited : (q : Question) (texts others : List (List ℕ)) (e : DatabaseEdit) → q.databases ≡ map pieces_of texts → others ≡ slice_set texts e.number e.text → KeepsPieces q e → AreEdited q (Some (record { number = e.number; kept = e.kept })) (map pieces_of others)
+texts_edited q texts others e read makes keeps =
+    one_edited q e.number e.items e.kept (map pieces_of others)
+    (ap (map pieces_of) makes ∙ map-set pieces_of texts e.number e.text ∙ (λ j. slice_set (sym read j) e.number (sym e.read j)))
+    keeps

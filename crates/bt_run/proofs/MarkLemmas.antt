@@ -1,5 +1,5 @@
 -- The marks of steps, with one step more.
-use Rattle.std.specs.Prelude.{slice_get, ◌⊎◌, IfSome}
+use Rattle.std.specs.Prelude.{slice_get, ◌⊎◌}
 use Rattle.std.specs.Option.{option_map}
 use Rattle.std.proofs.Common.{◌≡◌, refl, sym, ap, ◌∙◌, subst, inl, inr, ℕ, List, [], ◌∷◌, ◌++◌, length, map, Option, Some, arith}
 use Rattle.std.proofs.lemmas.Option.{slice_get_within, slice_get-map}
@@ -14,10 +14,8 @@ use Rattle.bt_run.specs.declared.mark.Mark.{Mark}
 use Rattle.bt_run.specs.Course.{input_at}
 use Rattle.bt_run.specs.inner.Course.{variables_back}
 use Rattle.bt_run.specs.inner.Earlier.{fixed}
-use Rattle.bt_run.specs.inner.Links.{at_entry, AreLast}
 use Rattle.bt_run.specs.inner.Marks.{step_tag, bare_mark, AreMarked, IsMark}
 use Rattle.bt_run.proofs.EarlierLemmas.{fixed_back, last_or}
-use Rattle.bt_run.proofs.LinkLemmas.{if_some, link_more, link_to}
 
 -- no steps
 pub none_marked : (entries : List Entry) (steps : List Step) (marks : List Mark) → steps ≡ [] → marks ≡ [] → AreMarked entries steps marks
@@ -33,36 +31,33 @@ bare_marked entries steps = record {
   each = λ k s m at here.
       let own : Some (bare_mark s) ≡ Some m = sym (ap (option_map bare_mark) at) ∙ sym (slice_get-map bare_mark steps k) ∙ here in
       let is : bare_mark s ≡ m = cc in
-      subst (IsMark entries steps k s) is (record { placed = λ n e. absurd cc; tagged = refl; linked = λ j e. absurd cc });
+      subst (IsMark entries s) is (record { placed = λ n e. absurd cc; tagged = refl });
 }
 
-pub marked_more : (w : World) (steps : List Step) (marks : List Mark) (lasts : List (Option ℕ)) (s : Step) (t : Target) (x : Option ℕ) (v : Option Variables) (tag : ℕ) (p : Option ℕ) → AreMarked w.entries steps marks → AreLast w steps lasts → s.input ≡ input_at t x w → tag ≡ step_tag s → IfSome p (at_entry lasts x) → AreMarked (variables_back x v w.entries) (steps ++ s ∷ []) (marks ++ record { place = x; tag = tag; previous = p } ∷ [])
-marked_more w steps marks lasts s t x v tag p h left is is_tag known = record {
+pub marked_more : (w : World) (steps : List Step) (marks : List Mark) (s : Step) (t : Target) (x : Option ℕ) (v : Option Variables) (tag : ℕ) → AreMarked w.entries steps marks → s.input ≡ input_at t x w → tag ≡ step_tag s → AreMarked (variables_back x v w.entries) (steps ++ s ∷ []) (marks ++ record { place = x; tag = tag } ∷ [])
+marked_more w steps marks s t x v tag h is is_tag = record {
   counted = omega (arith, length-append steps (s ∷ []), length-append marks (mark ∷ []), h.counted);
   each = λ k a m at here. mark_or k a m (last_or steps s a k at) (last_or marks mark m k here);
 }
   where
     mark : Mark
-    mark = record { place = x; tag = tag; previous = p }
+    mark = record { place = x; tag = tag }
 
-    own : IsMark (variables_back x v w.entries) (steps ++ s ∷ []) (length steps) s mark
+    own : IsMark (variables_back x v w.entries) s mark
     own = record {
       placed = λ n e. ap (λ (i : Input). option_map fixed i.entry) is ∙ ap (λ y. option_map fixed (entry_in w.entries y)) e ∙ ap Some (sym (fixed_back x v w.entries n));
       tagged = is_tag;
-      linked = λ j e. link_to w steps lasts s t x j left is (if_some p (at_entry lasts x) known j e);
     }
 
-    mark_or : (k : ℕ) (a : Step) (m : Mark) → (slice_get steps k ≡ Some a) ⊎ ((k ≡ length steps) × (s ≡ a)) → (slice_get marks k ≡ Some m) ⊎ ((k ≡ length marks) × (mark ≡ m)) → IsMark (variables_back x v w.entries) (steps ++ s ∷ []) k a m
+    mark_or : (k : ℕ) (a : Step) (m : Mark) → (slice_get steps k ≡ Some a) ⊎ ((k ≡ length steps) × (s ≡ a)) → (slice_get marks k ≡ Some m) ⊎ ((k ≡ length marks) × (mark ≡ m)) → IsMark (variables_back x v w.entries) a m
     mark_or k a m (inl at) (inl here) =
         let was = h.each k a m at here in
         record {
           placed = λ n e. was.placed n e ∙ ap Some (sym (fixed_back x v w.entries n));
           tagged = was.tagged;
-          linked = λ j e. link_more steps s k a j (slice_get_within steps k a at) (was.linked j e);
         }
     mark_or k a m (inl at) (inr here) = absurd (omega (arith, slice_get_within steps k a at, here.0, h.counted))
     mark_or k a m (inr at) (inl here) = absurd (omega (arith, slice_get_within marks k m here, at.0, h.counted))
     mark_or k a m (inr at) (inr here) =
-        subst (λ (n : ℕ). IsMark (variables_back x v w.entries) (steps ++ s ∷ []) n a m) (sym at.0)
-        (subst (λ (b : Step). IsMark (variables_back x v w.entries) (steps ++ s ∷ []) (length steps) b m) at.1
-        (subst (IsMark (variables_back x v w.entries) (steps ++ s ∷ []) (length steps) s) here.1 own))
+        subst (λ (b : Step). IsMark (variables_back x v w.entries) b m) at.1
+        (subst (IsMark (variables_back x v w.entries) s) here.1 own)

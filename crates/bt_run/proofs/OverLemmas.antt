@@ -56,3 +56,8 @@ module _ {S T : Type 0} (f : S → Step → S) (g : T → Step → T) (h : T →
   commands_over job number (c ∷ cs) r =
       ap (λ s. commands_from f job (suc number) cs s) (unless_over r.course.stopped r (carried_out g job number c.line c.action r) _ (carried_over job number c.line c.action r))
       ∙ commands_over job (suc number) cs (command g job number c r)
+
+  -- the same of a command's steps
+  pub iterated_so : (p : Program) (site : CommandPlace) (t : Target) (places : List ℕ) (r : Recorded T) → iterated f p site t places (recorded r.course (h r.seen)) ≡ recorded (iterated g p site t places r).course (h (iterated g p site t places r).seen)
+  unfolding over
+  iterated_so p site t places r = iterated_over p site t places r

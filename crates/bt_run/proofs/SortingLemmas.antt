@@ -23,15 +23,15 @@ use Rattle.bt_run.proofs.OrderLemmas.{places_below}
 abbrev order : (ℕ → List ℕ) → ℕ → ℕ → Ordering
 order key m n = ordering_then (slice_cmp nat_cmp (key m) (key n)) (nat_cmp m n)
 
-order_total : (key : ℕ → List ℕ) → IsTotalOrder (order key)
+pub order_total : (key : ℕ → List ℕ) → IsTotalOrder (order key)
 order_total key = then_total (on_total key nat_list_cmp_total) nat_cmp_total
 
 -- the first doesn't stand after the second
-abbrev Upto : (ℕ → List ℕ) → ℕ → ℕ → Type 0
+abbrev pub Upto : (ℕ → List ℕ) → ℕ → ℕ → Type 0
 Upto key m n = is_gt (order key m n) ≡ false
 
 -- each place doesn't stand after those that follow it
-abbrev Rising : (ℕ → List ℕ) → List ℕ → Type 0
+abbrev pub Rising : (ℕ → List ℕ) → List ℕ → Type 0
 Rising key [] = Unit {0}
 Rising key (m ∷ ms) = All (Upto key m) ms × Rising key ms
 
@@ -79,14 +79,14 @@ places_rise {X} k f key (x ∷ xs) far named =
 -- One list
 
 -- the sum of anything over both is the same
-abbrev SameSums : List ℕ → List ℕ → Type 0
+abbrev pub SameSums : List ℕ → List ℕ → Type 0
 SameSums xs ys = (f : ℕ → ℕ) → sum_by f xs ≡ sum_by f ys
 
 cond_zero : (b : Bool) → ◌≡◌ {A = ℕ} (cond b 1 0) 0 → b ≡ false
 cond_zero true h = absurd (omega (arith, h))
 cond_zero false h = refl
 
-sum_of_zeros : (f : ℕ → ℕ) (xs : List ℕ) → All (λ x. f x ≡ 0) xs → sum_by f xs ≡ 0
+pub sum_of_zeros : (f : ℕ → ℕ) (xs : List ℕ) → All (λ x. f x ≡ 0) xs → sum_by f xs ≡ 0
 sum_of_zeros f [] all = refl
 sum_of_zeros f (x ∷ xs) all = omega (arith, sum_by-cons f x xs, all 0 x (omega arith), sum_of_zeros f xs (All-tail (λ z. f z ≡ 0) x xs all))
 
@@ -112,7 +112,7 @@ one_place key x y to back =
     let l : is_lt (order key x y) ≡ false = sym (is_gt-reverse (order key x y)) ∙ ap is_gt (sym ((order_total key).antisymm y x)) ∙ back in
     ranked x y Equal (sym (second_equal (slice_cmp nat_cmp (key x) (key y)) (nat_cmp x y) to l))
 
-one_list : (key : ℕ → List ℕ) (xs ys : List ℕ) → Rising key xs → Rising key ys → SameSums xs ys → xs ≡ ys
+pub one_list : (key : ℕ → List ℕ) (xs ys : List ℕ) → Rising key xs → Rising key ys → SameSums xs ys → xs ≡ ys
 one_list key [] [] a b sums = refl
 one_list key [] (y ∷ ys) a b sums = absurd (omega (arith, sums (λ z. 1), sum_by-cons (λ z. 1) y ys))
 one_list key (x ∷ xs) [] a b sums = absurd (omega (arith, sums (λ z. 1), sum_by-cons (λ z. 1) x xs))
@@ -132,7 +132,7 @@ put_sum key f n (m ∷ ms) =
       | false ↦ omega (arith, sum_by-cons f m (put_among key n ms), sum_by-cons f m ms, put_sum key f n ms)
     ]
 
-sorted_sum : (key : ℕ → List ℕ) (f : ℕ → ℕ) (ns : List ℕ) → sum_by f (sorted key ns) ≡ sum_by f ns
+pub sorted_sum : (key : ℕ → List ℕ) (f : ℕ → ℕ) (ns : List ℕ) → sum_by f (sorted key ns) ≡ sum_by f ns
 unfolding sorted
 sorted_sum key f [] = refl
 sorted_sum key f (n ∷ ns) = omega (arith, put_sum key f n (sorted key ns), sorted_sum key f ns, sum_by-cons f n ns)
@@ -186,11 +186,11 @@ put_rises key n [] above rising = (All-nil (Upto key n), tt)
 put_rises key n (m ∷ ms) above rising =
     put_rises_by key n m ms (is_upto (key n) (key m)) refl above rising (put_rises key n ms (All-tail (λ k. n < k) m ms above) rising.1)
 
-range_above : (a b count : ℕ) → a < b → All (λ m. a < m) (range_with_len b count)
+pub range_above : (a b count : ℕ) → a < b → All (λ m. a < m) (range_with_len b count)
 range_above a b zero h = All-nil (λ m. a < m)
 range_above a b (suc count) h = All-cons (λ m. a < m) b (range_with_len (b + 1) count) h (range_above a (b + 1) count (omega (arith, h)))
 
-sorted_rises : (key : ℕ → List ℕ) (a count : ℕ) → Rising key (sorted key (range_with_len a count))
+pub sorted_rises : (key : ℕ → List ℕ) (a count : ℕ) → Rising key (sorted key (range_with_len a count))
 unfolding sorted
 sorted_rises key a zero = tt
 sorted_rises key a (suc count) =

@@ -1,6 +1,7 @@
 -- An edit of which the style sees nothing: the run after it is the run before it.
-use Rattle.std.specs.Prelude.{◌==◌, Bool, true, false, not, bytes_eq, slice_get, slice_index_or, slice_set, unwrap_or, ◌||◌, if◌then◌else◌}
+use Rattle.std.specs.Prelude.{◌==◌, Bool, true, false, not, bytes_eq, slice_get, slice_index_or, slice_set, ◌||◌, if◌then◌else◌}
 use Rattle.std.specs.List.{list_any}
+use Rattle.std.specs.Option.{ForSome}
 use Rattle.std.proofs.Common.{◌≡◌, ◌∙◌, ap, sym, refl, subst, inl, inr, ℕ, zero, suc, ◌+◌, ◌-◌, ◌<◌, ◌≤◌, List, [], ◌∷◌, ◌++◌, length, map, Option, Some, None, Ok, arith}
 use Rattle.std.proofs.lemmas.Bool.{cases_lt}
 use Rattle.std.proofs.lemmas.Bool.Decides.{nat_tests}
@@ -39,10 +40,11 @@ use Rattle.bt_run.specs.Steps.{styled_work, work_after}
 use Rattle.bt_run.specs.Work.{agrees_with, total_cost, was_done, work_under}
 use Rattle.bt_run.specs.inner.Asked.{question_for, with_databases}
 use Rattle.bt_run.specs.inner.Cases.{job_for, read_in, run_with, styled, text_in, unless_stopped}
+use Rattle.bt_run.specs.inner.OtherEntry.{IsAskedOf}
 use Rattle.bt_run.specs.inner.Steps.{run_shown}
-use Rattle.bt_run.specs.inner.Unseen.{AreAsked, AreOtherwise, DeclaresAt, FindTheSame, IsOnlyAt, IsRunOf, IsSameRun, IsStyledBy, IsUnseen}
+use Rattle.bt_run.specs.inner.Unseen.{AreAsked, AreFilesOf, AreOtherwise, DeclaresAt, FindTheSame, IsOnlyAt, IsRunOf, IsSameRun, IsStyledBy, IsUnseen}
 use Rattle.bt_run.proofs.AnswerLemmas.{kept_text, meant}
-use Rattle.bt_run.proofs.FindingLemmas.{maps, put_texts, resolved_is}
+use Rattle.bt_run.proofs.FindingLemmas.{maps, put_texts, resolved_is, texts_kept}
 use Rattle.bt_run.proofs.WorkLemmas.{same_itself}
 
 -- ---- commands
@@ -113,7 +115,7 @@ traced : (files : List File) (root : List ℕ) (min : ℕ) (c : Citations) → c
 unfolding trace run_of
 traced files root min c is = ap (λ (d : Citations). (run_with files d min d.style).seen) is
 
-pub same_run : (was files : List File) (root : List ℕ) (min : ℕ) (c : Citations) (name : List ℕ) (p : Program) → c ≡ citations files root → c ≡ citations was root → c.style ≡ Some name → IsStyledBy was files name p → finds was files c min name p → IsSameRun was files root min
+same_run : (was files : List File) (root : List ℕ) (min : ℕ) (c : Citations) (name : List ℕ) (p : Program) → c ≡ citations files root → c ≡ citations was root → c.style ≡ Some name → IsStyledBy was files name p → finds was files c min name p → IsSameRun was files root min
 same_run was files root min c name p is_cited was_cited named styles h =
     let same = runs_same was files c min name p named styles h in
     let shows : (fs : List File) → c ≡ citations fs root → run_shown (run_with fs c min c.style) c.wanted ≡ meaning fs root min =
@@ -134,13 +136,13 @@ same_run was files root min c name p is_cited was_cited named styles h =
 
 -- ---- what is asked
 
-question_is : (fs : List File) (c : Citations) (min : ℕ) (name : List ℕ) (p : Program) (q r : Question) (texts : List (List ℕ)) (k line : ℕ) → AreAsked q c min p → r ≡ with_databases (map pieces_of texts) q → texts ≡ map (text_in fs) c.databases → slice_get p.commands k ≡ Some (record { action = Read; line = line }) → question_for (job_for fs c min name p) k ≡ r
+pub question_is : (fs : List File) (c : Citations) (min : ℕ) (name : List ℕ) (p : Program) (q r : Question) (texts : List (List ℕ)) (k line : ℕ) → AreAsked q c min p → r ≡ with_databases (map pieces_of texts) q → texts ≡ map (text_in fs) c.databases → slice_get p.commands k ≡ Some (record { action = Read; line = line }) → question_for (job_for fs c min name p) k ≡ r
 question_is fs c min name p q r texts k line asked is are here =
     let databases : map (λ (n : List ℕ). pieces_of (text_in fs n)) c.databases ≡ map pieces_of texts = maps pieces_of (text_in fs) c.databases ∙ ap (map pieces_of) (sym are) in
     (λ j. record { declared = asked.declared k line here j; cites = sym asked.cites j; databases = databases j; min = sym asked.min j })
     ∙ sym is
 
-pub find_same : (was files : List File) (c : Citations) (min : ℕ) (name : List ℕ) (p : Program) (q r : Question) (before after : List (List ℕ)) → AreAsked q c min p → q ≡ with_databases (map pieces_of before) q → r ≡ with_databases (map pieces_of after) q → before ≡ map (text_in was) c.databases → after ≡ map (text_in files) c.databases → resolved_for r ≡ resolved_for q → finds was files c min name p
+find_same : (was files : List File) (c : Citations) (min : ℕ) (name : List ℕ) (p : Program) (q r : Question) (before after : List (List ℕ)) → AreAsked q c min p → q ≡ with_databases (map pieces_of before) q → r ≡ with_databases (map pieces_of after) q → before ≡ map (text_in was) c.databases → after ≡ map (text_in files) c.databases → resolved_for r ≡ resolved_for q → finds was files c min name p
 find_same was files c min name p q r before after asked is_before is_after are_before are_after same k line here =
     sym (resolved_is (job_for files c min name p) k)
     ∙ ap resolved_for (question_is files c min name p q r after k line asked is_after are_after here)
@@ -150,7 +152,7 @@ find_same was files c min name p q r before after asked is_before is_after are_b
 
 -- ---- an edit of the databases
 
-pub over_same : (q r : Question) (texts : List (List ℕ)) (number : ℕ) (text : List ℕ) (items : List PlacedPiece) (made : ResolvedEdit) → q.databases ≡ map pieces_of texts → items ≡ pieces_of text → IsResolvedEdit q number items made → made.seen ≡ Same → made.messages ≡ (resolved_for q).messages → r ≡ with_databases (map pieces_of (slice_set texts number text)) q → resolved_for r ≡ resolved_for q
+over_same : (q r : Question) (texts : List (List ℕ)) (number : ℕ) (text : List ℕ) (items : List PlacedPiece) (made : ResolvedEdit) → q.databases ≡ map pieces_of texts → items ≡ pieces_of text → IsResolvedEdit q number items made → made.seen ≡ Same → made.messages ≡ (resolved_for q).messages → r ≡ with_databases (map pieces_of (slice_set texts number text)) q → resolved_for r ≡ resolved_for q
 over_same q r texts number text items made read are edit seen messages is =
     let now = with_database number items q in
     ap resolved_for (is ∙ sym (put_texts q now texts number text items read are refl))
@@ -216,6 +218,36 @@ texts_after name was files text (suc number) (n ∷ ns) rest is only =
 pub gone_over : (name : List ℕ) (was files : List File) (names texts others : List (List ℕ)) (e : DatabaseEdit) → AreOtherwise name was files → texts ≡ map (text_in was) names → others ≡ slice_set texts e.number e.text → text_in files name ≡ e.text → IsOnlyAt name e.number names → others ≡ map (text_in files) names
 gone_over name was files names texts others e rest were are is only =
     are ∙ ap (λ (ts : List (List ℕ)). slice_set ts e.number e.text) were ∙ sym (texts_after name was files e.text e.number names rest is only)
+
+-- the edit is put
+module _ (name : List ℕ) (was files : List File) (root : List ℕ) (min : ℕ) (k v : KeptResolution) (unseen : IsUnseen k)
+    (put : ForSome k.edit (λ e. ForSome e.made (λ made. v.resolution ≡ with_databases (map pieces_of (slice_set k.texts e.number e.text)) k.resolution))) where
+  pub found_still : resolved_for v.resolution ≡ resolved_for k.resolution
+  found_still =
+      let e = unseen.edit in
+      over_same k.resolution v.resolution k.texts e.number e.text e.items unseen.made k.read e.read (k.edited e unseen.is_edit unseen.made unseen.is_made) unseen.seen unseen.messages
+      (put e unseen.is_edit unseen.made unseen.is_made)
+
+  module _ (p : Program) (asks : IsAskedOf name was files root min k p) (were : AreFilesOf was root k) (rest : AreOtherwise name was files)
+      (texts : ForSome k.edit (λ e. ForSome e.made (λ made. v.texts ≡ slice_set k.texts e.number e.text))) where
+    texts_now : v.texts ≡ map (text_in files) (citations was root).databases
+    texts_now =
+        let e = unseen.edit in
+        let edited = asks.edited e unseen.is_edit in
+        gone_over name was files (citations was root).databases k.texts v.texts e rest were (texts e unseen.is_edit unseen.made unseen.is_made) edited.0 edited.1
+
+    pub files_over : AreFilesOf files root v
+    files_over = texts_now ∙ ap (λ (c : Citations). map (text_in files) c.databases) (sym asks.same)
+
+    pub run_over : IsSameRun was files root min
+    run_over =
+        let e = unseen.edit in
+        let c = citations was root in
+        same_run was files root min c asks.style p (sym asks.same) refl asks.named asks.styled
+        (find_same was files c min asks.style p k.resolution v.resolution k.texts v.texts asks.asked
+        (texts_kept k.resolution k.texts k.texts k.read refl)
+        (put e unseen.is_edit unseen.made unseen.is_made ∙ ap (λ (ts : List (List ℕ)). with_databases (map pieces_of ts) k.resolution) (sym (texts e unseen.is_edit unseen.made unseen.is_made)))
+        were texts_now found_still)
 
 -- ---- the commands of a style
 

@@ -1,6 +1,6 @@
 //! What the files mean, by a run that reuses steps of an earlier run.
 
-ghost use Rattle.std.specs.Prelude.{◌≡◌, ◌≤◌, ◌-◌, ℕ, List, length, false, IfOk, OnOk};
+ghost use Rattle.std.specs.Prelude.{◌≡◌, ◌≤◌, ◌-◌, ℕ, List, length, map, false, IfOk, OnOk};
 ghost use Rattle.std.specs.Option.{ForSome};
 ghost use Rattle.bt_style.specs.Program.{program_of};
 ghost use Rattle.bt_run.specs.inner.Course.{recorded, IsArranged, IsOrdered};
@@ -10,17 +10,17 @@ ghost use Rattle.bt_run.specs.Steps.{StepsAre};
 ghost use Rattle.bt_run.specs.inner.Steps.{IsTaken};
 ghost use Rattle.bt_run.specs.Kept.{named_text, style_text, report_after};
 ghost use Rattle.bt_run.specs.Meaning.{style_run, meaning, trace};
-ghost use Rattle.bt_run.specs.inner.Cases.{run_with, shown_of};
+ghost use Rattle.bt_run.specs.inner.Cases.{bytes_written, run_with, shown_of};
 ghost use Rattle.bt_run.specs.inner.JobView.{job_of};
 ghost use Rattle.bt_run.specs.inner.Unseen.{AreTextsOf};
 ghost use Rattle.bt_run.specs.Shown.{meaning_of};
 
-use crate::bibliography::bbl_of;
+use crate::bibliography::{Written, bbl_of};
 use crate::commands::run_style;
 use crate::counts::tell_counts;
 use crate::course::{Course, Step};
 use crate::declarations::copied_texts;
-use crate::job::{Job, shared_text};
+use crate::job::{Job, cites_of, shared_text};
 use crate::kept::{Before, Kept};
 use crate::kept_steps::KeptSteps;
 use crate::known_calls::calls_of_all;
@@ -29,7 +29,6 @@ use crate::start::{idle, shared_messages, with_fault};
 use bt_actions::Entry;
 use bt_job::{Citations, File};
 use bt_log::{Message, log_bytes, status, terse_bytes};
-use bt_resolve::Cites;
 use bt_style::{StyleFault, StyleRefusal, fields_are_apart};
 use bt_text::{Bytes, Sequence, Shared};
 use std::alloc::{AllocError, Global};
@@ -92,7 +91,7 @@ impl Report {
         }
     }
 
-    fn of(status: u8, steps: &[Shared<Step>], reuse: &Reuse) -> Report
+    pub(crate) fn of(status: u8, steps: &[Shared<Step>], reuse: &Reuse) -> Report
         requires fewer { reuse.now.ran ≤ length steps.now }
         ensures status { result.status ≡ status }
         ensures ran { result.ran ≡ reuse.now.ran }
@@ -151,16 +150,6 @@ impl StyleRun {
     {
         StyleRun { course, text }
     }
-}
-
-/// The keys that the `.aux` files cite, shared.
-pub fn cites_of(citations: &Citations) -> Result<Cites, AllocError>
-    ensures { IfOk result (λ cites. cites ≡ record { keys = citations.now.keys; star = citations.now.star }) }
-{
-    Ok(Cites {
-        keys: citations.keys.share()?,
-        star: citations.star,
-    })
 }
 
 /// Runs what the `.aux` files ask for.
@@ -254,6 +243,7 @@ struct Ran {
     text: Option<Shared<Bytes>>,
     entries: Sequence<Entry>,
     order: Sequence<usize>,
+    lengths: Sequence<usize>,
 }
 
 /// Runs what the files ask for from this root. All that fails does so here, where the steps are lent: to drop them would
@@ -277,6 +267,7 @@ fn run_from(
     ensures true_steps { IfOk result (λ ran. StepsAre ran.text steps.new.steps) }
     ensures arranged { IfOk result (λ ran. IsArranged (length ran.entries) ran.order) }
     ensures kept { IfOk result (λ ran. AreKept ran.entries steps.new) }
+    ensures lengths { IfOk result (λ ran. ran.lengths ≡ map bytes_written steps.new.steps) }
 {
     let citations = steps.readings.aux_texts.citations(alloc, files, root)?;
     let wanted = copied_texts(alloc, citations.wanted.as_slice())?;
@@ -289,7 +280,8 @@ fn run_from(
         log,
         ..
     } = course;
-    let bbl = bbl_of(alloc, steps.steps.as_slice(), before.kept.written)?;
+    let written = bbl_of(alloc, steps.steps.as_slice(), before.kept.written)?;
+    let Written { bbl, lengths } = written;
     let answers = show(alloc, bbl, log, wanted)?;
     let report = Report::of(answers.status, steps.steps.as_slice(), &steps.reuse);
     let aux_texts = steps.readings.aux_texts.present(alloc, files)?;
@@ -300,6 +292,7 @@ fn run_from(
         text,
         entries,
         order,
+        lengths,
     })
 }
 
@@ -308,6 +301,7 @@ impl Ran {
         requires true_steps { StepsAre self.text steps.steps }
         requires arranged { IsArranged (length self.entries) self.order }
         requires kept { AreKept self.entries steps }
+        requires lengths { self.lengths ≡ map bytes_written steps.steps }
         ensures answers { result.answers ≡ self.answers }
         ensures report { result.report ≡ self.report }
         ensures text { result.kept.text ≡ self.text }
@@ -320,6 +314,7 @@ impl Ran {
             text,
             entries,
             order,
+            lengths,
         } = self;
         let KeptSteps {
             steps,
@@ -341,6 +336,7 @@ impl Ran {
             is_own,
             is_present: false,
             written: answers.bbl.len(),
+            lengths,
             readings,
         };
         Run {

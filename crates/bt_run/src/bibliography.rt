@@ -1,11 +1,14 @@
 //! The bibliography, which steps write line by line.
 
-ghost use Rattle.std.specs.Prelude.{◌≡◌, ◌++◌, [], ◌∷◌, IfOk, OnOk};
+ghost use Rattle.std.specs.Prelude.{◌≡◌, ◌++◌, ◌+◌, ◌≤◌, [], ◌∷◌, length, map, sum, IfOk, OnOk};
 ghost use Rattle.bt_log.specs.Log.{lines_bytes};
-ghost use Rattle.bt_run.specs.inner.Cases.{bbl_of};
+ghost use Rattle.bt_run.specs.inner.Cases.{bbl_of, bytes_written};
+ghost use Rattle.bt_run.specs.inner.Walk.{AreNumbered, with_steps};
 
 use crate::course::Step;
-use bt_text::{Bytes, Shared};
+use crate::kept::Kept;
+use crate::walk::OtherStep;
+use bt_text::{Bytes, Sequence, Shared};
 use std::alloc::{AllocError, Global};
 
 fn write_line(text: &mut Bytes, line: &[u8]) -> Result<(), AllocError>
@@ -43,13 +46,83 @@ pub fn write_own_lines(text: &mut Bytes, lines: &[Bytes]) -> Result<(), AllocErr
     Ok(())
 }
 
+/// What steps have written, and how many bytes each.
+pub struct Written {
+    pub bbl: Bytes,
+    pub lengths: Sequence<usize>,
+}
+
+/// Puts what a step wrote after a text, and its length after other lengths.
+fn push_step(text: &mut Vec<u8>, lengths: &mut Vec<usize>, step: &Step) -> Result<(), AllocError>
+    ensures text { OnOk result (text.new.items ≡ text.old.items ++ lines_bytes step.now.outcome.lines) }
+    ensures lengths { OnOk result (lengths.new.items ≡ lengths.old.items ++ bytes_written step.now ∷ []) }
+{
+    let begin = text.len();
+    push_lines(text, step.outcome.lines.as_slice())?;
+    lengths.push(text.len().saturating_sub(begin))?;
+    Ok(())
+}
+
 /// What steps have written. The previous run wrote `before` bytes, so this makes room for as many at once.
-pub fn bbl_of(alloc: Global, steps: &[Shared<Step>], before: usize) -> Result<Bytes, AllocError>
-    ensures { IfOk result (λ bbl. bbl ≡ bbl_of steps.now) }
+pub fn bbl_of(alloc: Global, steps: &[Shared<Step>], before: usize) -> Result<Written, AllocError>
+    ensures bbl { IfOk result (λ written. written.bbl ≡ bbl_of steps.now) }
+    ensures lengths { IfOk result (λ written. written.lengths ≡ map bytes_written steps.now) }
 {
     let mut bbl = Vec::with_capacity(alloc, before)?;
+    let mut lengths = Vec::with_capacity(alloc, steps.len())?;
     'steps: for step in steps {
-        push_lines(&mut bbl, step.outcome.lines.as_slice())?;
+        push_step(&mut bbl, &mut lengths, step)?;
     }
+    Ok(Written {
+        bbl: Bytes::from_vec(bbl),
+        lengths: Sequence::from_vec(lengths),
+    })
+}
+
+/// Where lines end that begin here, in a text of this length, by the lengths of their steps.
+fn end_of(begin: usize, lengths: &[usize], len: usize) -> usize
+    requires { begin + sum lengths.now ≤ len }
+    ensures { result ≡ begin + sum lengths.now }
+{
+    let mut end = begin;
+    'lengths: for length in lengths {
+        end += *length;
+    }
+    end
+}
+
+/// How many bytes more a bibliography may need with these steps.
+fn room_for(steps: &[OtherStep]) -> usize {
+    let mut room: usize = 0;
+    'steps: for step in steps {
+        room = room.saturating_add(step.length);
+    }
+    room
+}
+
+/// The bibliography of a run beside this one, which wrote the old one, with other steps in the place of some.
+pub fn bbl_beside(
+    alloc: Global,
+    old: &[u8],
+    kept: &Kept,
+    others: &[OtherStep],
+) -> Result<Bytes, AllocError>
+    requires old { old.now ≡ bbl_of kept.now.steps }
+    requires numbered { AreNumbered 0 (length kept.now.steps) others.now }
+    ensures { IfOk result (λ bbl. bbl ≡ bbl_of (with_steps kept.now.steps others.now)) }
+{
+    let lengths = kept.lengths.as_slice();
+    let len = old.len();
+    let mut bbl = Vec::with_capacity(alloc, len.saturating_add(room_for(others)))?;
+    let mut number: usize = 0;
+    let mut place: usize = 0;
+    'others: for other in others {
+        let end = end_of(place, &lengths[number..other.number], len);
+        bbl.extend_from_slice(&old[place..end])?;
+        push_lines(&mut bbl, other.step.outcome.lines.as_slice())?;
+        place = end + lengths[other.number];
+        number = other.number + 1;
+    }
+    bbl.extend_from_slice(&old[place..])?;
     Ok(Bytes::from_vec(bbl))
 }

@@ -4,7 +4,7 @@ ghost use Rattle.std.specs.Prelude.{◌≡◌, IsTrue, slice_set};
 ghost use Rattle.bt_bib.specs.BibText.{pieces_of};
 
 use bt_bib::Items;
-use bt_resolve::ResolvedEdit;
+use bt_resolve::{KeptPieces, ResolvedEdit};
 use bt_text::{Bytes, Shared, are_same, equal_bytes};
 
 /// A database that is known by its number, from 0.
@@ -23,6 +23,8 @@ pub struct DatabaseEdit {
     pub text: Shared<Bytes>,
     /// The items of that text.
     pub items: Shared<Items>,
+    /// Which of its pieces it kept.
+    pub kept: KeptPieces,
     /// What it changes of what READ found. None if that may be more than the values of one entry.
     pub made: Option<ResolvedEdit>,
     ghost read: { items ≡ pieces_of text },

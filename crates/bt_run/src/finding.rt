@@ -79,8 +79,7 @@ fn find_anew(
     ensures { OnOk result (IsKept kept.new (question_of asking)) }
 {
     let databases = all_items(alloc, asking.texts.as_slice(), kept)?;
-    drop(kept.take());
-    let found = KeptResolution::of(alloc, asking, databases)?;
+    let found = KeptResolution::of(alloc, asking, databases, kept)?;
     drop(kept.replace(found));
     Ok(())
 }

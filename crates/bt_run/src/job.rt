@@ -8,7 +8,7 @@ ghost use Rattle.bt_job.specs.FileNames.{text_of};
 ghost use Rattle.bt_text.specs.NameList.{are_apart};
 
 use crate::kept::Kept;
-use bt_job::{File, owned_text_of};
+use bt_job::{Citations, File, owned_text_of};
 use bt_resolve::Cites;
 use bt_style::Style;
 use bt_text::{Bytes, Shared};
@@ -30,6 +30,16 @@ pub struct Job<'a> {
     ghost steps: { All (IsStep (program_of style.now)) earlier.now.steps },
     ghost fields_apart: { IsTrue (are_apart style.now.fields) },
     ghost star_within: { ForSome cites.now.star (λ before. before ≤ length cites.now.keys) },
+}
+
+/// The keys that the `.aux` files cite, shared.
+pub fn cites_of(citations: &Citations) -> Result<Cites, AllocError>
+    ensures { IfOk result (λ cites. cites ≡ record { keys = citations.now.keys; star = citations.now.star }) }
+{
+    Ok(Cites {
+        keys: citations.keys.share()?,
+        star: citations.star,
+    })
 }
 
 /// The text of a name, shared with its file; the empty text where there is none.

@@ -1,6 +1,6 @@
 //! What is kept of a run for the next one.
 
-ghost use Rattle.std.specs.Prelude.{◌≡◌, None, [], length, IfSome};
+ghost use Rattle.std.specs.Prelude.{◌≡◌, None, [], length, map, IfSome};
 ghost use Rattle.bt_bib.specs.BibText.{pieces_of};
 ghost use Rattle.bt_bib.specs.Splice.{IsSplice};
 ghost use Rattle.bt_run.specs.Steps.{StepsAre};
@@ -9,6 +9,7 @@ ghost use Rattle.std.specs.Option.{ForSome, option_map};
 ghost use Rattle.bt_run.specs.inner.Marks.{AreMarked};
 ghost use Rattle.bt_run.specs.inner.Turn.{AreInTurn};
 ghost use Rattle.bt_run.specs.inner.Calls.{AreCalls};
+ghost use Rattle.bt_run.specs.inner.Cases.{bytes_written};
 ghost use Rattle.bt_run.specs.inner.Found.{AreFoundBy};
 
 use crate::counts::Calls;
@@ -41,6 +42,8 @@ pub struct Kept {
     pub is_present: bool,
     /// The length of its bibliography, for which the next run makes room.
     pub written: usize,
+    /// How many bytes of it each step wrote.
+    pub lengths: Sequence<usize>,
     /// What was read of other files than databases.
     pub readings: Readings,
     ghost true_steps: { StepsAre text steps },
@@ -49,6 +52,7 @@ pub struct Kept {
     ghost called: { ForSome calls (AreCalls steps) },
     ghost in_turn: { AreInTurn steps },
     ghost found: { AreFoundBy is_own resolution entries },
+    ghost measured: { lengths ≡ map bytes_written steps },
 }
 
 impl Kept {
@@ -69,6 +73,7 @@ impl Kept {
             is_own: false,
             is_present: false,
             written: 0,
+            lengths: Sequence::new(alloc),
             readings: Readings::nothing(alloc),
         }
     }

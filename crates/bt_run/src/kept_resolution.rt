@@ -2,7 +2,8 @@
 //!
 //! From one run to the next READ mostly asks the same, or one of its databases has a splice. In the first case what is
 //! kept is the answer. In the second it mostly becomes the answer by an edit, which reads at most one item and the strings
-//! before it. Otherwise the question is resolved anew, and only databases with new texts are read.
+//! before it. Otherwise the question is resolved anew: only databases with new texts are read, and if one splice made
+//! them, the new resolution begins with the old one.
 //!
 //! What is kept is right about its own question, whatever the session's state is. So an edit that fails may leave it out
 //! or leave one about another state: the next run compares the questions.
@@ -13,16 +14,17 @@ ghost use Rattle.std.proofs.Props.{props};
 ghost use Rattle.bt_bib.specs.BibText.{pieces_of};
 ghost use Rattle.bt_bib.specs.Splice.{IsSplice};
 ghost use Rattle.bt_text.specs.NameList.{are_apart};
+ghost use Rattle.bt_resolve.specs.inner.Earlier.{AreEdited};
 ghost use Rattle.bt_resolve.specs.inner.Kept.{resolved_for};
 ghost use Rattle.bt_run.specs.inner.Alike.{IsAlike, is_known};
 ghost use Rattle.bt_run.specs.inner.Asked.{question_of, with_databases};
-ghost use Rattle.bt_run.specs.inner.Edits.{IsAlikeAfter, IsAmong, IsEditIn, Makes, within_prop};
+ghost use Rattle.bt_run.specs.inner.Edits.{IsAlikeAfter, IsAmong, IsEditIn, KeepsPieces, Makes, kept_prop, within_prop};
 
 use crate::alike::Alike;
-use crate::asking::Asking;
+use crate::asking::{Asking, is_same_declared};
 use crate::database_edit::{DatabaseEdit, KnownDatabase};
 use bt_bib::{Items, Splice};
-use bt_resolve::{Question, Resolution};
+use bt_resolve::{EditedDatabase, KeptPieces, Question, Resolution};
 use bt_text::{Bytes, Sequence, Shared, are_same, equal_bytes};
 use std::alloc::{AllocError, Global};
 use std::mem;
@@ -36,6 +38,31 @@ pub struct KeptResolution {
     pub edit: Option<DatabaseEdit>,
     ghost read: { resolution.databases ≡ map pieces_of texts },
     ghost edited: { ForSome edit (IsEditIn resolution) } by { Prim.hlevel (props, within_prop) },
+    ghost kept: { ForSome edit (KeepsPieces resolution) } by { Prim.hlevel (props, kept_prop) },
+}
+
+/// The resolution of a question about these texts. It begins with an earlier one, if that is of use.
+fn resolution_after(
+    alloc: Global,
+    earlier: &Option<KeptResolution>,
+    texts: &[Shared<Bytes>],
+    question: Question,
+) -> Result<Resolution, AllocError>
+    requires fields { IsTrue (are_apart question.declared.fields) }
+    requires star { IfSome question.cites.star (λ before. before ≤ length question.cites.keys) }
+    requires texts { question.databases ≡ map pieces_of texts.now }
+    ensures { IfOk result (λ resolution. resolution ≡ question) }
+{
+    let Some(earlier) = earlier else {
+        return Resolution::of(alloc, question);
+    };
+    let Some(edited) = earlier.edited_database(texts) else {
+        return Resolution::of(alloc, question);
+    };
+    if !is_same_declared(&question.declared, &earlier.resolution.question().declared) {
+        return Resolution::of(alloc, question);
+    }
+    earlier.resolution.after(alloc, question, edited)
 }
 
 impl KeptResolution {
@@ -44,6 +71,7 @@ impl KeptResolution {
         alloc: Global,
         asking: Asking,
         databases: Sequence<Shared<Items>>,
+        earlier: &Option<KeptResolution>,
     ) -> Result<KeptResolution, AllocError>
         requires fields { IsTrue (are_apart asking.declared.fields) }
         requires star { IfSome asking.cites.star (λ before. before ≤ length asking.cites.keys) }
@@ -62,7 +90,7 @@ impl KeptResolution {
             databases,
             min,
         };
-        let resolution = Resolution::of(alloc, question)?;
+        let resolution = resolution_after(alloc, earlier, texts.as_slice(), question)?;
         let kept = KeptResolution {
             resolution,
             texts,
@@ -108,7 +136,8 @@ impl KeptResolution {
         splice: Splice,
     ) -> Result<Option<DatabaseEdit>, AllocError>
         requires { IsSplice old.now text.now splice.begin splice.end splice.inserted }
-        ensures { IfOk result (λ edit. ForSome edit (IsEditIn self.now.resolution)) }
+        ensures edit { IfOk result (λ edit. ForSome edit (IsEditIn self.now.resolution)) }
+        ensures kept { IfOk result (λ edit. ForSome edit (KeepsPieces self.now.resolution)) }
     {
         let Some(known) = self.known(old) else {
             return Ok(None);
@@ -118,11 +147,13 @@ impl KeptResolution {
         let edit = items.edit(alloc, old, new, splice)?;
         let items = Shared::new(alloc, items.edited(alloc, new, &edit)?)?;
         let made = self.resolution.edit(alloc, number, &items, &edit)?;
+        let kept = KeptPieces::of(&edit);
         let text = text.share()?;
         Ok(Some(DatabaseEdit {
             number,
             text,
             items,
+            kept,
             made,
         }))
     }
@@ -156,6 +187,25 @@ impl KeptResolution {
         edit.makes(self.texts.as_slice(), texts)
     }
 
+    /// Which database these texts have edited: none if all texts are the same. `None` if more may have changed.
+    fn edited_database(&self, texts: &[Shared<Bytes>]) -> Option<Option<EditedDatabase>>
+        ensures { IfSome result (λ edited. AreEdited self.now.resolution edited (map pieces_of texts.now)) }
+    {
+        if are_same(self.texts.as_slice(), texts) {
+            return Some(None);
+        }
+        let Some(edit) = &self.edit else {
+            return None;
+        };
+        if !edit.makes(self.texts.as_slice(), texts) {
+            return None;
+        }
+        Some(Some(EditedDatabase {
+            number: edit.number,
+            kept: edit.kept,
+        }))
+    }
+
     /// Puts what the edit made in the place of what was found, if it made something. It can't fail.
     pub fn put(&mut self)
         ensures resolution { ForSome self.old.edit (λ edit. ForSome edit.made (λ made. self.new.resolution
@@ -171,6 +221,7 @@ impl KeptResolution {
             text,
             items,
             made,
+            ..
         } = edit;
         let Some(made) = made else {
             return;

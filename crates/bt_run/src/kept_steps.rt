@@ -9,7 +9,6 @@ ghost use Rattle.bt_run.specs.inner.Found.{AreFoundBy};
 ghost use Rattle.bt_run.specs.inner.Steps.{steps_under};
 ghost use Rattle.bt_run.specs.inner.Marks.{step_tag};
 ghost use Rattle.bt_run.specs.inner.Turn.{IsGivenAt, IsSharedFrom};
-ghost use Rattle.bt_run.specs.inner.Links.{AreLast};
 ghost use Rattle.bt_run.specs.inner.Work.{IsBegun, IsConsistent, IsMarkedAt, IsNext};
 
 use crate::alike::same_entries;
@@ -19,13 +18,12 @@ use crate::job::Job;
 use crate::kept::{Before, Kept};
 use crate::kept_resolution::KeptResolution;
 use crate::known_calls::{Turn, count_step};
-use crate::links::{last_for, no_numbers, note_last};
 use crate::mark::{Mark, marks_of, tag_of};
 use crate::read_command::read;
 use crate::readings::Readings;
 use crate::recorder::Recorder;
 use crate::reuse::Reuse;
-use crate::reused_step::{Done, Marked, marked_at, take_over_or_carry_out};
+use crate::reused_step::{Done, Marked, StepToTake, marked_at};
 use crate::same_input::{Known, is_input};
 use crate::step::{cut_out, put_back};
 use crate::step_command::StepCommand;
@@ -47,10 +45,6 @@ pub struct KeptSteps {
     /// Those that were reused whole are shared with the run before.
     pub steps: Sequence<Shared<Step>>,
     pub marks: Sequence<Mark>,
-    /// The last of these steps for each entry, if there is one.
-    pub lasts: Sequence<Option<usize>>,
-    /// The earlier run's step that left each entry as it is, if there is one.
-    pub origins: Sequence<Option<usize>>,
     /// Whether the earlier run's entry at a place is the one there, but for its variables.
     pub same: Sequence<bool>,
     /// Whether the previous run's step at the cursor is known to have been given the globals and the held line that the
@@ -70,13 +64,6 @@ pub struct KeptSteps {
     pub readings: Readings,
 }
 
-/// The earlier step that a step is, if it is one.
-fn origin_of(turn: Turn) -> Option<usize>
-    ensures { IfSome result (λ k. IsTrue turn.shared × (k ≡ turn.from)) }
-{
-    if turn.shared { Some(turn.from) } else { None }
-}
-
 impl KeptSteps {
     /// No step, over what earlier runs have read and READ has found. `is_earlier` tells whether it found that in the earlier
     /// run.
@@ -93,8 +80,6 @@ impl KeptSteps {
         KeptSteps {
             steps: Sequence::new(alloc),
             marks: Sequence::new(alloc),
-            lasts: Sequence::new(alloc),
-            origins: Sequence::new(alloc),
             same: Sequence::new(alloc),
             in_step: false,
             calls: None,
@@ -144,7 +129,6 @@ impl KeptSteps {
         requires same { AreSame command.job.earlier.now.entries course.now.entries self.now.same }
         requires given { IsTrue self.now.in_step →
             IsGivenAt command.job.earlier.now.steps self.now.reuse.next (course_world course.now) }
-        requires origins { AreLast (course_world course.now) command.job.earlier.now.steps self.now.origins }
         ensures at { IfSome result (IsMarkedAt command.entry.job.earlier.now self.now.reuse.next) }
         ensures command { IfSome result (λ again. again.step.now.command ≡ command.entry.site.now.command) }
         ensures input { IfSome result (λ again. again.step.now.input ≡ input_at target place (course_world course.now)) }
@@ -154,7 +138,6 @@ impl KeptSteps {
         let known = Known {
             same: mark.is_same(place, self.same.as_slice()),
             given: self.in_step,
-            linked: mark.is_linked(self.origins.as_slice(), place),
         };
         if step.command == command.site.command
             && is_input(&step.input, course, target, place, known)
@@ -180,9 +163,17 @@ impl KeptSteps {
         // Read for the proof alone: its length fits 64 bits, so that the count of the steps that were carried out can't
         // overflow.
         let _steps = self.steps.len();
-        let Done { outcome, cost } = take_over_or_carry_out(command, &input, &mut self.reuse)?;
-        let made = Step::of(command.site.command, input, outcome, cost)?;
-        let step = Shared::new(command.alloc, made)?;
+        let StepCommand { alloc, job, site } = command;
+        let next = StepToTake {
+            alloc,
+            style: job.style,
+            earlier: job.earlier,
+            command: site.command,
+            input: &input,
+        };
+        let Done { outcome, cost } = next.take_over_or_carry_out(&mut self.reuse)?;
+        let made = Step::of(site.command, input, outcome, cost)?;
+        let step = Shared::new(alloc, made)?;
         Ok(step)
     }
 
@@ -263,11 +254,7 @@ impl Recorder for KeptSteps {
         )?;
         drop(alike);
         let marks = marks_of(alloc, self.steps.as_slice())?;
-        let lasts = no_numbers(alloc, course.entries.as_slice())?;
-        let origins = no_numbers(alloc, course.entries.as_slice())?;
         self.marks = marks;
-        self.lasts = lasts;
-        self.origins = origins;
         self.same = same;
         self.is_own = true;
         self.is_earlier = false;
@@ -290,19 +277,10 @@ impl Recorder for KeptSteps {
         let Next { step, tag, shared } = self.next_step(command, target, place, course)?;
         put_back(command, course, place, &step.outcome)?;
         let next = self.reuse.next;
-        let turn = Turn { from, next, shared };
-        count_step(&mut self.calls, earlier, turn, &step)?;
+        count_step(&mut self.calls, earlier, Turn { from, next, shared }, &step)?;
         self.in_step = shared;
-        let previous = last_for(self.lasts.as_slice(), place);
-        let own = self.steps.len();
-        note_last(&mut self.lasts, place, Some(own));
-        note_last(&mut self.origins, place, origin_of(turn));
         self.steps.push(step)?;
-        self.marks.push(Mark {
-            place,
-            tag,
-            previous,
-        })?;
+        self.marks.push(Mark { place, tag })?;
         Ok(())
     }
 }

@@ -23,7 +23,8 @@ pub struct Turn {
     pub shared: bool,
 }
 
-fn exchange_calls(
+/// Replaces one step's calls by another's.
+pub fn exchange_calls(
     sums: &mut Calls,
     old: &[u32; BUILTIN_COUNT],
     new: &[u32; BUILTIN_COUNT],

@@ -2,18 +2,13 @@
 //!
 //! A scan for a step of some command and key looks only at steps with the same tag. The marks stand side by side, while
 //! the keys are all over the memory: to compare the keys took 9 to 15 % of a title edit.
-//!
-//! A step is given the entry that the last step for it left. So if an entry is as an earlier step left it, the next earlier
-//! step for it was given the same, and nobody needs to compare them.
 
 ghost use Rattle.std.specs.Prelude.{◌≡◌, ◌<◌, IfOk, IsTrue, map};
 ghost use Rattle.bt_run.specs.Course.{key_in};
 ghost use Rattle.bt_run.specs.inner.Earlier.{IsSameAt};
-ghost use Rattle.bt_run.specs.inner.Links.{IsLinked};
 ghost use Rattle.bt_run.specs.inner.Marks.{bare_mark, tag_from, tag_of};
 
 use crate::course::Step;
-use crate::links::last_for;
 use bt_machine::Input;
 use bt_text::{Sequence, Shared};
 use std::alloc::{AllocError, Global};
@@ -28,8 +23,6 @@ pub struct Mark {
     pub place: Option<usize>,
     /// A hash of the step's command and its entry's key.
     pub tag: u64,
-    /// The step before it for the same entry, if there is one.
-    pub previous: Option<usize>,
 }
 
 impl Mark {
@@ -39,16 +32,6 @@ impl Mark {
     {
         match (self.place, place) {
             (Some(own), Some(place)) => own == place && place < same.len() && same[place],
-            _ => false,
-        }
-    }
-
-    /// Whether the step is the next one for the entry at a place, which is as the last step left it.
-    pub fn is_linked(self, origins: &[Option<usize>], place: Option<usize>) -> bool
-        ensures { IsTrue result → IsLinked self.previous origins.now place }
-    {
-        match (self.previous, last_for(origins, place)) {
-            (Some(link), Some(origin)) => link == origin,
             _ => false,
         }
     }
@@ -85,7 +68,6 @@ pub fn marks_of(alloc: Global, steps: &[Shared<Step>]) -> Result<Sequence<Mark>,
         marks.push(Mark {
             place: None,
             tag: tag_of(step.command, &step.input),
-            previous: None,
         })?;
     }
     Ok(marks)

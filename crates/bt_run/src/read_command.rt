@@ -85,6 +85,20 @@ fn all_entered(
     Ok(all)
 }
 
+/// An entry as a style begins with it.
+pub fn blank_entry(
+    alloc: Global,
+    style: &Style,
+    entry: &bt_resolve::Entry,
+) -> Result<Entry, AllocError>
+    ensures { IfOk result (λ e. e ≡ with_blank_variables (program_of style.now) entry.now) }
+{
+    let numbers = style.entry_numbers.as_slice();
+    let texts = style.entry_texts.as_slice();
+    let first = Shared::new(alloc, blank(alloc, numbers, texts)?)?;
+    entered(entry, &first)
+}
+
 fn list_order(alloc: Global, entries: &[Entry]) -> Result<Sequence<usize>, AllocError>
     ensures { IfOk result (λ order. order ≡ list_order entries.now) }
 {

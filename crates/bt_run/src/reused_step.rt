@@ -7,24 +7,23 @@ ghost use Rattle.bt_style.specs.Reach.{is_among};
 ghost use Rattle.bt_machine.specs.Step.{step_in, outcome_of};
 ghost use Rattle.bt_machine.specs.AgreementLaws.{IsFootprint, IsNextOutcome, outcome_over};
 ghost use Rattle.bt_run.specs.Course.{key_in};
+ghost use Rattle.bt_run.specs.Work.{IsStep};
 ghost use Rattle.bt_run.specs.inner.Index.{IsIndex};
 ghost use Rattle.bt_run.specs.inner.Marks.{tag_of};
 ghost use Rattle.bt_run.specs.inner.Work.{IsNoneAt, IsNone, IsMet, IsKnown, step_now, IsCounted, IsMarkedAt};
 
 use crate::course::Step;
 use crate::index::Index;
-use crate::job::Job;
 use crate::kept::Kept;
 use crate::mark::{Mark, tag_of};
 use crate::reuse::{KnownReach, Lookup, Reuse};
-use crate::step_command::StepCommand;
 use bt_machine::{Input, Outcome, activate, agreeing_inputs_have_one_step, agrees, left_over};
 use bt_style::{Reach, Style, Target};
 use bt_text::{Sequence, Shared};
 use std::alloc::{AllocError, Global};
 
 /// How often all earlier steps are scanned before an index of them is made, which takes much longer than one scan.
-const SCANS: usize = 16;
+pub const SCANS: usize = 16;
 
 /// What a step left, and its cost.
 #[derive(Drop)]
@@ -284,50 +283,63 @@ fn carry_out_step(
     Ok(Done { outcome, cost })
 }
 
-/// What the step of an input leaves: reused if the earlier run has the step, otherwise run.
-pub fn take_over_or_carry_out(
-    command: StepCommand<'_>,
-    input: &Input,
-    reuse: &mut Reuse,
-) -> Result<Done, AllocError>
-    requires meter { reuse.old.meter + 1000000 < 2 ^ 128 }
-    requires ran { reuse.old.ran + 1 < 2 ^ 128 }
-    requires known { All (IsKnown (program_of command.job.style.now)) reuse.old.known }
-    requires indexed { ForSome reuse.old.lookup.index (IsIndex command.job.earlier.now.steps) }
-    ensures outcome { IfOk result (λ d.
-        d.outcome ≡ outcome_of (step_in (program_of command.entry.job.style.now) input.now)) }
-    ensures cost { IfOk result (λ d. d.cost ≡ (step_in (program_of command.entry.job.style.now) input.now).cost) }
-    ensures known { OnOk result (All (IsKnown (program_of command.entry.job.style.now)) reuse.new.known) }
-    ensures indexed { OnOk result (ForSome reuse.new.lookup.index (IsIndex command.entry.job.earlier.now.steps)) }
-    ensures within { OnOk result (reuse.new.meter ≤ reuse.old.meter + 1000000) }
-    ensures counted { IfOk result (λ d. IsCounted (program_of command.entry.job.style.now)
-        command.entry.job.earlier.now.steps (step_now command.entry.site.now.command input.now d.outcome d.cost)
-        reuse.old reuse.new) }
-{
-    let StepCommand { alloc, job, site } = command;
-    let Job { style, earlier, .. } = job;
-    // This call does nothing; the proof needs its contract, a law of the machine.
-    agreeing_inputs_have_one_step();
-    let known = reach_of(alloc, style, input, &mut reuse.known)?;
-    let reach: &Reach = &known;
-    let steps = earlier.steps.as_slice();
-    let sought = Sought {
-        style,
-        command: site.command,
-        input,
-        reach,
-    };
-    let met = meet(alloc, earlier, reuse.next, sought, &mut reuse.lookup)?;
-    match met {
-        Some(found) => {
-            reuse.next = found.place + 1;
-            let taken = take_over(alloc, found.step, input, reach)?;
-            Ok(taken)
-        }
-        None => {
-            reuse.next = place_after(steps, reuse.next, sought);
-            let ran = carry_out_step(alloc, style, input, reuse)?;
-            Ok(ran)
+/// A step to take: its command and its input, under a style, after an earlier run of that style.
+#[derive(Clone, Copy)]
+pub struct StepToTake<'a> {
+    pub alloc: Global,
+    pub style: &'a Style,
+    pub earlier: &'a Kept,
+    pub command: usize,
+    pub input: &'a Input,
+    ghost steps: { All (IsStep (program_of style.now)) earlier.now.steps },
+}
+
+impl StepToTake<'_> {
+    /// What the step leaves: reused if the earlier run has the step, otherwise run.
+    pub fn take_over_or_carry_out(self, reuse: &mut Reuse) -> Result<Done, AllocError>
+        requires meter { reuse.old.meter + 1000000 < 2 ^ 128 }
+        requires ran { reuse.old.ran + 1 < 2 ^ 128 }
+        requires known { All (IsKnown (program_of self.style.now)) reuse.old.known }
+        requires indexed { ForSome reuse.old.lookup.index (IsIndex self.earlier.now.steps) }
+        ensures outcome { IfOk result (λ d.
+            d.outcome ≡ outcome_of (step_in (program_of self.entry.style.now) self.entry.input.now)) }
+        ensures cost { IfOk result (λ d. d.cost ≡ (step_in (program_of self.entry.style.now) self.entry.input.now).cost) }
+        ensures known { OnOk result (All (IsKnown (program_of self.entry.style.now)) reuse.new.known) }
+        ensures indexed { OnOk result (ForSome reuse.new.lookup.index (IsIndex self.entry.earlier.now.steps)) }
+        ensures within { OnOk result (reuse.new.meter ≤ reuse.old.meter + 1000000) }
+        ensures counted { IfOk result (λ d. IsCounted (program_of self.entry.style.now) self.entry.earlier.now.steps
+            (step_now self.entry.command self.entry.input.now d.outcome d.cost) reuse.old reuse.new) }
+    {
+        let StepToTake {
+            alloc,
+            style,
+            earlier,
+            command,
+            input,
+        } = self;
+        // This call does nothing; the proof needs its contract, a law of the machine.
+        agreeing_inputs_have_one_step();
+        let known = reach_of(alloc, style, input, &mut reuse.known)?;
+        let reach: &Reach = &known;
+        let steps = earlier.steps.as_slice();
+        let sought = Sought {
+            style,
+            command,
+            input,
+            reach,
+        };
+        let met = meet(alloc, earlier, reuse.next, sought, &mut reuse.lookup)?;
+        match met {
+            Some(found) => {
+                reuse.next = found.place + 1;
+                let taken = take_over(alloc, found.step, input, reach)?;
+                Ok(taken)
+            }
+            None => {
+                reuse.next = place_after(steps, reuse.next, sought);
+                let ran = carry_out_step(alloc, style, input, reuse)?;
+                Ok(ran)
+            }
         }
     }
 }

@@ -73,21 +73,17 @@ pub struct Known {
     pub same: bool,
     /// It has the run's globals and held line.
     pub given: bool,
-    /// Its entry is the one at the place, and its preamble the run's.
-    pub linked: bool,
 }
 
 /// Whether an input has the entry at a place, or none, and the run's preamble.
-fn is_entered(input: &Input, course: &Course, place: Option<usize>, known: Known) -> bool
+fn is_entered(input: &Input, course: &Course, place: Option<usize>, same: bool) -> bool
     requires placed { IsPlace place (course_world course.now) }
-    requires same { IsTrue known.same →
+    requires same { IsTrue same →
         option_map fixed input.now.entry ≡ option_map fixed (entry_in course.now.entries place) }
-    requires linked { IsTrue known.linked → IsEntered (course_world course.now) place input.now }
     ensures { IsTrue result → IsEntered (course_world course.now) place input.now }
 {
-    known.linked
-        || (is_entry_at(&input.entry, course.entries.as_slice(), place, known.same)
-            && equal_preambles(input.preamble.as_slice(), course.preamble.as_slice()))
+    is_entry_at(&input.entry, course.entries.as_slice(), place, same)
+        && equal_preambles(input.preamble.as_slice(), course.preamble.as_slice())
 }
 
 /// Whether an input is what a step is given now, for the entry at a place or for none.
@@ -103,10 +99,9 @@ pub fn is_input(
     requires same { IsTrue known.same →
         option_map fixed input.now.entry ≡ option_map fixed (entry_in course.now.entries place) }
     requires given { IsTrue known.given → IsGiven (course_world course.now) input.now }
-    requires linked { IsTrue known.linked → IsEntered (course_world course.now) place input.now }
     ensures { IsTrue result → input.now ≡ input_at target place (course_world course.now) }
 {
     input.target == target
-        && is_entered(input, course, place, known)
+        && is_entered(input, course, place, known.same)
         && is_given(input, course, known.given)
 }

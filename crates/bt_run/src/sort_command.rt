@@ -11,7 +11,7 @@ use bt_text::Sequence;
 use std::alloc::{AllocError, Global};
 
 /// The key of an entry: its text `sort.key$`, which is the first of its texts.
-fn sort_key(entry: &Entry) -> &[u8]
+pub fn sort_key(entry: &Entry) -> &[u8]
     ensures { result.now ≡ sort_key entry.now }
 {
     match entry.variables.texts.get(0) {

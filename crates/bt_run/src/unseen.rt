@@ -7,20 +7,19 @@
 
 ghost use Rattle.std.specs.Prelude.{◌≡◌, ◌<◌, ℕ, false, IfErr, IfOk, IfSome, IsTrue, None, length, map};
 ghost use Rattle.std.specs.Option.{ForSome};
-ghost use Rattle.bt_bib.specs.BibText.{pieces_of};
 ghost use Rattle.bt_resolve.specs.declared.seen_edit.SeenEdit.TheVariants.{Same};
 ghost use Rattle.bt_resolve.specs.inner.Kept.{resolved_for};
 ghost use Rattle.bt_style.specs.declared.style.Action.TheVariants.{Read};
 ghost use Rattle.bt_style.specs.Program.{program_of};
 ghost use Rattle.bt_run.specs.Kept.{report_after};
-ghost use Rattle.bt_run.specs.inner.Asked.{with_databases};
 ghost use Rattle.bt_run.specs.inner.Cases.{text_in};
+ghost use Rattle.bt_run.specs.inner.OtherEntry.{IsAskedOf};
 ghost use Rattle.bt_run.specs.inner.Unseen.{AreAsked, AreFilesOf, AreOtherwise, AreTextsOf, DeclaresAt, IsOnlyAt, IsRunOf, IsSameRun, IsStyledBy, IsUnseen};
 
-use crate::answers::{Report, Run, cites_of};
+use crate::answers::{Report, Run};
 use crate::asking::{is_same_cites, is_same_declared};
 use crate::declarations::declared_before;
-use crate::job::shared_text;
+use crate::job::{cites_of, shared_text};
 use crate::kept::Kept;
 use crate::kept_resolution::KeptResolution;
 use crate::readings::Readings;
@@ -105,24 +104,6 @@ impl KeptResolution {
         };
         equal_bytes(text_in(change.files, change.name), edit.text.as_slice())
             && is_only_at(change.name, edit.number, names)
-    }
-
-    /// Goes over to the files after a change, if its edit is what changes of the databases of these names.
-    fn go_over(&mut self, change: Change<'_>, names: &[Bytes]) -> bool
-        requires unseen { IsUnseen self.old }
-        requires texts { self.old.texts ≡ map (text_in change.was.now) names.now }
-        requires rest { AreOtherwise change.name.now change.was.now change.files.now }
-        ensures same { resolved_for self.new.resolution ≡ resolved_for self.old.resolution }
-        ensures asked { IsTrue result → self.new.resolution
-            ≡ with_databases (map pieces_of self.new.texts) self.old.resolution }
-        ensures texts { IsTrue result → self.new.texts ≡ map (text_in change.entry.files.now) names.now }
-        ensures stay { result ≡ false → self.new.texts ≡ self.old.texts }
-    {
-        if !self.has_edit_to(change, names) {
-            return false;
-        }
-        self.put();
-        true
     }
 }
 
@@ -215,6 +196,37 @@ impl KeptResolution {
         all_declare(change.alloc, style, &question.declared)
     }
 
+    /// The style of the files before and after a change, if each READ asks of the databases what was asked, and the edit is
+    /// what changes of these.
+    pub fn style_asked(
+        &self,
+        change: Change<'_>,
+        readings: &mut Readings,
+    ) -> Result<Option<Shared<Style>>, AllocError>
+        ensures { IfOk result (λ found. IfSome found (λ style. IsAskedOf change.entry.name.now change.entry.was.now
+            change.entry.files.now change.entry.root.now change.entry.min self.now (program_of style))) }
+    {
+        let Some(citations) = readings
+            .aux_texts
+            .known_for_both(change.was, change.files, change.root)
+        else {
+            return Ok(None);
+        };
+        let citations = citations.share()?;
+        let Some(name) = &citations.style else {
+            return Ok(None);
+        };
+        let Some(style) = change.style(readings, name.as_slice())? else {
+            return Ok(None);
+        };
+        if !self.is_asked(change, &citations, &style)?
+            || !self.has_edit_to(change, citations.databases.as_slice())
+        {
+            return Ok(None);
+        }
+        Ok(Some(style))
+    }
+
     /// Goes over to the files that a change makes, if the run of them is known to be the run before. What is found stays
     /// in any case.
     pub fn pass(&mut self, change: Change<'_>, readings: &mut Readings) -> Result<bool, AllocError>
@@ -231,23 +243,12 @@ impl KeptResolution {
         if !self.has_unseen_edit() {
             return Ok(false);
         }
-        let Some(citations) = readings
-            .aux_texts
-            .known_for_both(change.was, change.files, change.root)
-        else {
+        let Some(style) = self.style_asked(change, readings)? else {
             return Ok(false);
         };
-        let citations = citations.share()?;
-        let Some(name) = &citations.style else {
-            return Ok(false);
-        };
-        let Some(style) = change.style(readings, name.as_slice())? else {
-            return Ok(false);
-        };
-        if !self.is_asked(change, &citations, &style)? {
-            return Ok(false);
-        }
-        Ok(self.go_over(change, citations.databases.as_slice()))
+        drop(style);
+        self.put();
+        Ok(true)
     }
 }
 
@@ -271,12 +272,17 @@ impl Kept {
         kept.has_texts(files, citations.databases.as_slice())
     }
 
-    /// Takes note whether READ found what it found in the texts of these files.
-    fn note_texts(&mut self, files: &[File], root: &[u8])
+    /// Whether READ found what it found in the texts of these files. It takes note of that.
+    pub fn is_found_in(&mut self, files: &[File], root: &[u8]) -> bool
+        requires { AreTextsOf files.now root.now self.old }
         ensures same { self.new ≡ record self.old { is_present = self.new.is_present } }
+        ensures present { result ≡ self.new.is_present }
         ensures texts { AreTextsOf files.now root.now self.new }
     {
-        self.is_present = self.has_texts_of(files, root);
+        if !self.is_present {
+            self.is_present = self.has_texts_of(files, root);
+        }
+        self.is_present
     }
 
     /// Whether the run of the files before a change is known to be that of those after it, because the style sees nothing
@@ -294,13 +300,7 @@ impl Kept {
             AreTextsOf change.entry.was.now change.entry.root.now self.new) }
         ensures err { IfErr result (λ error. AreTextsOf change.entry.was.now change.entry.root.now self.new) }
     {
-        if !self.has_unseen_edit() {
-            return Ok(false);
-        }
-        if !self.is_present {
-            self.note_texts(change.was, change.root);
-        }
-        if !self.is_present {
+        if !self.has_unseen_edit() || !self.is_found_in(change.was, change.root) {
             return Ok(false);
         }
         let Some(kept) = &mut self.resolution else {
@@ -313,7 +313,7 @@ impl Kept {
 impl Run {
     /// The report of a change of which the style sees nothing. Then this is also the run of the files after the change.
     /// None if that isn't known. The answers, the text of the style and the steps stay in any case.
-    pub fn report_unseen(&mut self, change: Change<'_>) -> Result<Option<Report>, AllocError>
+    pub(crate) fn report_unseen(&mut self, change: Change<'_>) -> Result<Option<Report>, AllocError>
         requires run { IsRunOf change.was.now change.root.now change.min self.old }
         requires texts { AreTextsOf change.was.now change.root.now self.old.kept }
         requires rest { AreOtherwise change.name.now change.was.now change.files.now }

@@ -1,5 +1,5 @@
 -- Parts of rules, for the functions and lemmas that speak of them.
-use Rattle.std.specs.Prelude.{ℕ, List, [], ◌∷◌, Some, None, Bool, ◌++◌, map, slice_index_or, Option, pos, flat_map, unwrap_or, Result, Ok, Err, if◌then◌else◌, filter, take, count_by}
+use Rattle.std.specs.Prelude.{ℕ, List, [], ◌∷◌, length, Some, None, Bool, ◌++◌, map, slice_index_or, Option, pos, flat_map, unwrap_or, Result, Ok, Err, if◌then◌else◌, filter, take, count_by}
 use Rattle.bt_style.specs.declared.style.Command.{Command}
 use Rattle.bt_style.specs.Program.{Program, Definition}
 use Rattle.bt_run.specs.declared.course.Course.{Course}
@@ -91,6 +91,10 @@ run_with files c min (Some style) = styled files c min style (style_of (unwrap_o
 -- the bibliography: the lines of the steps
 abbrev pub bbl_of : List Step → List ℕ
 bbl_of steps = flat_map (λ (s : Step). lines_bytes s.outcome.lines) steps
+
+-- how many bytes of the bibliography a step wrote
+abbrev pub bytes_written : Step → ℕ
+bytes_written s = length (lines_bytes s.outcome.lines)
 
 -- what this bibliography, this log and these wanted names show
 abbrev pub shown_of : List ℕ → List Message → List (List ℕ) → Meaning

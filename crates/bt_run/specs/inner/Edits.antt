@@ -8,6 +8,8 @@ use Rattle.bt_resolve.specs.declared.kept.ResolvedEdit.{ResolvedEdit}
 use Rattle.bt_resolve.specs.declared.question.Question.{Question}
 use Rattle.bt_resolve.specs.declared.seen_edit.SeenEdit.{SeenEdit}
 use Rattle.bt_resolve.specs.declared.seen_edit.SeenEdit.TheVariants.{Same, Others}
+use Rattle.bt_resolve.specs.declared.earlier.KeptPieces.{KeptPieces}
+use Rattle.bt_resolve.specs.inner.Earlier.{AreKeptPieces}
 use Rattle.bt_resolve.specs.inner.Kept.{IsResolvedEdit, IsWithin}
 use Rattle.bt_run.specs.declared.alike.Alike.{Alike}
 use Rattle.bt_run.specs.declared.database_edit.DatabaseEdit.{DatabaseEdit}
@@ -26,6 +28,13 @@ within_prop (Others o) n = hlevel props
 -- An edit of a database of what is resolved.
 abbrev pub IsEditIn : Question → DatabaseEdit → Type 0
 IsEditIn q e = ForSome e.made (IsResolvedEdit q e.number e.items)
+
+-- It keeps these pieces of its database.
+abbrev pub KeepsPieces : Question → DatabaseEdit → Type 0
+KeepsPieces q e = (old : List PlacedPiece) → slice_get q.databases e.number ≡ Some old → AreKeptPieces old e.items e.kept
+
+pub kept_prop : (old new : List PlacedPiece) (kept : KeptPieces) → IsProp (AreKeptPieces old new kept)
+kept_prop old new kept = hlevel props
 
 -- This says which entries stay after the edit that is kept.
 pub record IsAlikeAfter (kept : Option DatabaseEdit) (alike : Alike) : Type 0 where

@@ -6,7 +6,6 @@ use Rattle.bt_run.specs.declared.course.Step.{Step}
 use Rattle.bt_run.specs.declared.mark.Mark.{Mark}
 use Rattle.bt_run.specs.Course.{key_in}
 use Rattle.bt_run.specs.inner.Earlier.{fixed, fixed_at}
-use Rattle.bt_run.specs.inner.Links.{IsLink}
 
 -- a number with some bytes after it, mixed
 abbrev pub tag_from : ℕ → List ℕ → ℕ
@@ -24,15 +23,14 @@ step_tag s = tag_of s.command (key_in s.input)
 
 -- the mark of a step for no entry
 abbrev pub bare_mark : Step → Mark
-bare_mark s = record { place = None; tag = step_tag s; previous = None }
+bare_mark s = record { place = None; tag = step_tag s }
 
--- The mark of the step at a place. A step for the entry at a place was given that entry, but for its variables.
-pub record IsMark (entries : List Entry) (steps : List Step) (k : ℕ) (s : Step) (m : Mark) : Type 0 where
+-- The mark of a step. A step for the entry at a place was given that entry, but for its variables.
+pub record IsMark (entries : List Entry) (s : Step) (m : Mark) : Type 0 where
   pub placed : ForSome m.place (λ n. option_map fixed s.input.entry ≡ Some (fixed_at entries n))
   pub tagged : m.tag ≡ step_tag s
-  pub linked : ForSome m.previous (IsLink steps k s)
 
 -- the marks of steps, one for each
 pub record AreMarked (entries : List Entry) (steps : List Step) (marks : List Mark) : Type 0 where
   pub counted : length marks ≡ length steps
-  pub each : (k : ℕ) (s : Step) (m : Mark) → slice_get steps k ≡ Some s → slice_get marks k ≡ Some m → IsMark entries steps k s m
+  pub each : (k : ℕ) (s : Step) (m : Mark) → slice_get steps k ≡ Some s → slice_get marks k ≡ Some m → IsMark entries s m

@@ -21,7 +21,6 @@ use Rattle.bt_run.specs.inner.Index.{IsIndex}
 use Rattle.bt_run.specs.inner.Earlier.{AreSame}
 use Rattle.bt_run.specs.inner.Marks.{AreMarked, IsMark}
 use Rattle.bt_run.specs.inner.Turn.{AreInTurn, AreLeft, IsGivenAt}
-use Rattle.bt_run.specs.inner.Links.{AreLast}
 use Rattle.bt_run.specs.inner.Found.{AreFoundBy}
 use Rattle.bt_run.specs.inner.Calls.{AreCalls, AreCallsFrom}
 use Rattle.bt_run.specs.Work.{IsStep, work_under, total_cost}
@@ -41,7 +40,7 @@ IsUnlikeAt command names i steps k = (s : Step) → slice_get steps k ≡ Some s
 -- an earlier step and its mark are those at a place
 pub record IsMarkedAt (earlier : Kept) (k : ℕ) (m : Marked) : Type 0 where
   pub at : slice_get earlier.steps k ≡ Some m.step.now
-  pub mark : IsMark earlier.entries earlier.steps k m.step.now m.mark
+  pub mark : IsMark earlier.entries m.step.now m.mark
 
 -- Of a step that is looked for: that none at a place is like it, that no earlier one is, and that one was met which is.
 
@@ -101,8 +100,6 @@ pub record IsConsistent (p : Program) (earlier : Kept) (w : World) (s : KeptStep
   pub called : ForSome s.calls (AreCallsFrom earlier.steps s.reuse.next s.steps)
   pub found : AreFoundBy s.is_own s.resolution w.entries
   pub found_before : AreFoundBy s.is_earlier s.resolution earlier.entries
-  pub lasts : AreLast w s.steps s.lasts
-  pub origins : AreLast w earlier.steps s.origins
 
 -- what the next run may know of the steps of this one, whose entries these are
 pub record AreKept (entries : List Entry) (s : KeptSteps) : Type 0 where
@@ -116,4 +113,4 @@ abbrev pub IsBegun : KeptSteps → Type 0
 IsBegun s =
     (s.steps ≡ []) × (s.marks ≡ []) × (s.same ≡ []) × (s.reuse.ran ≡ 0) × (s.reuse.meter ≡ 0) × (s.reuse.known ≡ [])
     × (s.reuse.lookup.index ≡ None) × (s.in_step ≡ false) × (s.reuse.next ≡ 0) × (s.calls ≡ None)
-    × (s.is_own ≡ false) × (s.lasts ≡ []) × (s.origins ≡ [])
+    × (s.is_own ≡ false)

@@ -14,7 +14,7 @@ returns-clause-shown c =
     let steps = c.run_with.new.steps.steps in
     let wanted = c.in_ok-wanted.wanted in
     meant c.args.files.now c.args.root.now c.args.min c.deref-2.result.now (recorded ran.course steps) wanted (meaning_of c.in_ok-answers.answers)
-    (c.in_ok-answers.ensures ∙ ap (λ bbl. shown_of bbl ran.course.log wanted) (c.in_ok-bbl.ensures ∙ ap bbl_of c.as_slice-2.ensures))
+    (c.in_ok-answers.ensures ∙ ap (λ bbl. shown_of bbl ran.course.log wanted) (c.in_ok-written.ensures.bbl ∙ ap bbl_of c.as_slice-2.ensures))
     c.in_ok-ran.ensures.run (c.in_ok-wanted.ensures ∙ c.as_slice.ensures ∙ ap (λ (d : Citations). d.wanted) (c.deref.ensures ∙ sym c.deref-2.ensures))
     (c.deref-2.ensures ∙ c.in_ok-citations.ensures.value)
 

@@ -1,4 +1,4 @@
-use Rattle.std.proofs.Common.{◌∙◌, ap, sym, subst, map, List, None}
+use Rattle.std.proofs.Common.{◌∙◌, ap, sym, subst, map, List}
 use Rattle.bt_style.specs.Program.{program_of}
 use Rattle.bt_actions.specs.declared.entry.Entry.{Entry}
 use Rattle.bt_run.specs.declared.kept_steps.KeptSteps.{KeptSteps}
@@ -17,12 +17,10 @@ returns-clause-ready c =
     let s = c.args.self.now in
     let same = c.in_ok-same.same in
     let are_bare = c.in_ok-marks.ensures ∙ ap (map bare_mark) c.as_slice-3.ensures in
-    let no_lasts = c.in_ok-lasts.ensures ∙ ap (map (λ (e : Entry). None)) c.as_slice-4.ensures in
-    let no_origins = c.in_ok-origins.ensures ∙ ap (map (λ (e : Entry). None)) c.as_slice-5.ensures in
     let are_same : AreSame job.earlier.now.entries c.read.new.course.entries same = subst (λ (es : List Entry). AreSame job.earlier.now.entries es same) c.as_slice-2.ensures (subst (λ (es : List Entry). AreSame es c.as_slice-2.result.now same) c.as_slice.ensures c.in_ok-same.ensures) in
     subst (λ (k : KeptSteps). IsConsistent (program_of job.style.now) job.earlier.now (course_world c.read.new.course) k) (sym c.in_ok-make_room.ensures)
     (read_consistent (program_of job.style.now) job.earlier.now (job_of job) c.args.number c.args.course.now c.read.new.course s
-    c.read.new.kept c.in_ok-marks.marks c.in_ok-lasts.lasts c.in_ok-origins.origins same c.in_ok-found.ensures.run are_bare no_lasts no_origins are_same c.in_ok-found.ensures.kept c.requires)
+    c.read.new.kept c.in_ok-marks.marks same c.in_ok-found.ensures.run are_bare are_same c.in_ok-found.ensures.kept c.requires)
 
 pub returns-clause-seen : goal.returns-clause-seen
 returns-clause-seen c = ap (λ (k : KeptSteps). k.steps) c.in_ok-make_room.ensures

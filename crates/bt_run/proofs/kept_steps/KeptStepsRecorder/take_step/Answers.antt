@@ -1,5 +1,4 @@
-use Rattle.std.specs.Prelude.{IfSome}
-use Rattle.std.proofs.Common.{Some, ap, sym, ◌∙◌, ◌++◌, [], ◌∷◌, List, ℕ, Option, subst}
+use Rattle.std.proofs.Common.{ap, sym, ◌∙◌, ◌++◌, [], ◌∷◌, List, subst}
 use Rattle.std.specs.Option.{ForSome}
 use Rattle.bt_style.specs.Program.{program_of}
 use Rattle.bt_run.specs.declared.kept_steps.KeptSteps.{KeptSteps}
@@ -7,8 +6,7 @@ use Rattle.bt_run.specs.declared.course.Step.{Step}
 use Rattle.bt_run.specs.inner.Calls.{AreCallsFrom}
 use Rattle.bt_run.specs.inner.Course.{put_back}
 use Rattle.bt_run.specs.inner.Turn.{IsSharedFrom}
-use Rattle.bt_run.specs.inner.Links.{at_entry, with_last}
-use Rattle.bt_run.proofs.CourseLemmas.{Links, AreMore, step_taken, consistent_behind, length_back, ordered_back}
+use Rattle.bt_run.proofs.CourseLemmas.{step_taken, consistent_behind, length_back, ordered_back}
 use Rattle.bt_run.proofs.kept_steps.KeptStepsRecorder.take_step.Goals as goal
 
 pub count_step-requires : goal.count_step-requires
@@ -42,21 +40,9 @@ returns-clause-ready c =
     let called : (ss : List Step) → ForSome c.next_step.new.self.calls (AreCallsFrom earlier.steps from ss) → ForSome c.count_step.new.calls (AreCallsFrom earlier.steps next (ss ++ taken.step ∷ [])) =
     λ ss were. subst (λ (s : Step). ForSome c.count_step.new.calls (AreCallsFrom earlier.steps next (ss ++ s ∷ []))) c.deref-2.ensures (counted ss were)
     in
-    let links : Links = record {
-      link = c.last_for-previous.result;
-      origin = c.origin_of.result;
-      lasts = c.note_last.new.lasts;
-      origins = c.note_last-2.new.lasts;
-    } in
-    let more : AreMore c.args.place c.args.self.now c.next_step.new.self taken.shared links = record {
-      link = subst (λ (ls : List (Option ℕ)). IfSome c.last_for-previous.result (at_entry ls c.args.place)) c.as_slice.ensures c.last_for-previous.ensures;
-      origin = c.origin_of.ensures;
-      lasts = c.note_last.ensures ∙ ap (λ n. with_last c.args.place (Some n) c.next_step.new.self.lasts) c.len-own.ensures;
-      origins = c.note_last-2.ensures;
-    } in
     consistent_behind (program_of c.args.command.job.style.now) earlier site c.args.target c.args.place c.args.course.now c.put_back.new.course taken.step taken.tag taken.shared
-    c.args.self.now c.next_step.new.self c.push.new.self c.push-2.new.self c.count_step.new.calls links
-    c.requires.ready c.requires.placed more c.in_ok-step.ensures.input (c.in_ok-put_back.ensures ∙ ap (λ (t : Step). put_back site c.args.place t.outcome c.args.course.now) c.deref.ensures)
+    c.args.self.now c.next_step.new.self c.push.new.self c.push-2.new.self c.count_step.new.calls
+    c.requires.ready c.requires.placed c.in_ok-step.ensures.input (c.in_ok-put_back.ensures ∙ ap (λ (t : Step). put_back site c.args.place t.outcome c.args.course.now) c.deref.ensures)
     c.in_ok-step.ensures.rest c.in_ok-push.ensures.ok c.in_ok-push-2.ensures.ok c.in_ok-step.ensures.tag c.in_ok-step.ensures.shared called c.in_ok-step.ensures.next
 
 pub returns-clause-ordered : goal.returns-clause-ordered
