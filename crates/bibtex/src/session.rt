@@ -103,8 +103,8 @@ impl Session {
     }
 
     /// Goes to a state, using what was read before: everything that the state means is made beside what is kept, and then
-    /// replaces it. Only the resolution isn't kept twice: the run edits it in place. After out of memory the session has
-    /// none, which it may, because a resolution is only right about its own question.
+    /// replaces it. Only the resolution is moved into the run, which edits it or makes a new one from it. After out of memory
+    /// the session has none, which it may, because a resolution is only right about its own question.
     fn go_to(&mut self, state: State) -> Result<Report, Refusal>
         requires { EachOnce state.texts }
         ensures ok { IfOk result (λ _. self.new ≡ state) }
@@ -122,7 +122,8 @@ impl Session {
         Ok(self.replace(state, run))
     }
 
-    /// Goes to a state in which one file alone has another text.
+    /// Goes to a state in which one file alone has another text. The run follows the change if it can; otherwise a new one
+    /// begins.
     fn go_over(&mut self, name: &[u8], state: State) -> Result<Report, Refusal>
         requires once { EachOnce state.texts }
         requires root { state.root ≡ self.old.root }

@@ -1,6 +1,6 @@
 -- No two entries of the list have keys that match.
-use Rattle.std.proofs.Common.{◌≡◌, ◌≢◌, ◌∙◌, ap, sym, refl, ℕ, zero, suc, ◌+◌, ◌<◌, Bool, true, false, IsTrue, List, [], ◌∷◌, ◌++◌, length, map, take, reverse, Option, Some, None, arith, inl, inr}
-use Rattle.std.specs.Prelude.{◌==◌, ◌||◌, ◌&&◌, not, cond, slice_get, filter, filter_map, option_map, option_and_then, unwrap_or, if◌then◌else◌}
+use Rattle.std.proofs.Common.{◌≡◌, ◌≢◌, ◌∙◌, ap, sym, refl, subst, ℕ, zero, suc, ◌+◌, ◌<◌, Bool, true, false, IsTrue, List, [], ◌∷◌, ◌++◌, length, map, take, reverse, Option, Some, None, arith, inl, inr}
+use Rattle.std.specs.Prelude.{◌==◌, ◌||◌, ◌&&◌, not, cond, is_none, nat_lt, slice_get, filter, filter_map, option_map, option_and_then, unwrap_or, if◌then◌else◌}
 use Rattle.std.specs.List.{AllByRecursion, range_with_len, cons_option}
 use Rattle.std.specs.Cmp.Lexicographic.{nat_list_eq_equiv}
 use Rattle.std.proofs.lemmas.Bool.{cases_Bool}
@@ -21,12 +21,12 @@ use Rattle.bt_resolve.specs.declared.stored.Stored.{Stored}
 use Rattle.bt_text.specs.NameList.{has_name, are_apart}
 use Rattle.bt_resolve.specs.Names.{place_of_name}
 use Rattle.bt_resolve.specs.Listed.{place_of_key, is_cited_at, is_among, firsts, uncited_parents, listed}
-use Rattle.bt_resolve.specs.inner.Cases.{cited_places, entry_at, parents, is_cited, others_than, listed_by, asked, with_entry, with_item}
+use Rattle.bt_resolve.specs.inner.Cases.{children, cited_places, entry_at, parents, is_cited, others_than, listed_by, asked, with_entry, with_item}
 use Rattle.bt_resolve.specs.Inherited.{key_spelled, entry_seen, entries_seen, is_left_out, values_after}
 use Rattle.bt_resolve.specs.Apart.{KeysApart, StoredKeysApart, EntriesApart}
 use Rattle.bt_resolve.specs.Resolved.{resolved, stored_entries, all_items}
 use Rattle.bt_resolve.proofs.FieldLemmas.{same_at, same_back, has_alike, some_zero, some_suc, before_suc, value_or, or_false, and_true}
-use Rattle.bt_resolve.proofs.ListLemmas.{same_some}
+use Rattle.bt_resolve.proofs.ListLemmas.{any_at, same_some}
 
 -- ---- no two stored keys match
 
@@ -343,3 +343,32 @@ seen_apart a min ss stored cited =
 pub entries_apart : EntriesApart
 unfolding resolved
 entries_apart d c databases min cited = seen_apart (asked d c) min (stored_entries (asked d c) d.macros databases) (stored_apart (asked d c) d.macros databases) cited
+
+-- ---- a key that an entry has, byte for byte
+
+abbrev key_at : List Stored → ℕ → Option (List ℕ)
+key_at stored p = option_map (λ (s : Stored). s.key) (slice_get stored p)
+
+by_key : (P : Option Stored → Type 0) (o : Option Stored) (key : List ℕ) → option_map (λ (s : Stored). s.key) o ≡ Some key → ((s : Stored) → o ≡ Some s → s.key ≡ key → P (Some s)) → P o
+by_key P None key is gives = absurd cc
+by_key P (Some s) key is gives = gives s refl (same_some s.key key is)
+
+pub stored_at : (stored : List Stored) (p : ℕ) (key : List ℕ) → key_at stored p ≡ Some key → is_stored stored key ≡ true
+stored_at stored p key is =
+    by_key (λ o. is_stored stored key ≡ true) (slice_get stored p) key is (λ s here same.
+    any_at (λ (t : Stored). is_same_folded t.key key) stored p s here (subst (λ (k : List ℕ). is_same_folded s.key k ≡ true) same (same_self s.key)))
+
+never_out : (b c : Bool) → not (b && not true && c) ≡ true
+never_out true c = refl
+never_out false c = refl
+
+pub cited_at : (keys : List (List ℕ)) (stored : List Stored) (p i : ℕ) (key : List ℕ) → slice_get keys i ≡ Some key → key_at stored p ≡ Some key → is_cited_at keys stored p ≡ true
+cited_at keys stored p i key there is =
+    by_key (λ (o : Option Stored). elim o [ None ↦ false | Some s ↦ has_name keys s.key ] ≡ true) (slice_get stored p) key is (λ s here same.
+    any_at (λ (n : List ℕ). is_same_folded n s.key) keys i key there (subst (λ (k : List ℕ). is_same_folded k s.key ≡ true) same (same_self s.key)))
+
+-- a cited entry isn't left out
+pub shown_cited : (a : Asked) (min : ℕ) (stored : List Stored) (p : ℕ) → is_cited_at a.keys stored p ≡ true → true ≡ not (is_left_out a min stored p)
+unfolding is_left_out
+shown_cited a min stored p cited =
+    sym (ap (λ (b : Bool). not (is_none a.star && not b && nat_lt (children stored p) min)) cited ∙ never_out (is_none a.star) (nat_lt (children stored p) min))

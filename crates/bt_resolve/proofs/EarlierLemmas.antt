@@ -40,7 +40,7 @@ use Rattle.bt_resolve.specs.Warnings.{line_at}
 use Rattle.bt_text.specs.CaseFolding.{is_same_folded}
 use Rattle.bt_resolve.specs.inner.Cases.{content_messages, fault_messages, key_messages, origin_of, type_messages, with_entry, with_item}
 use Rattle.bt_resolve.specs.inner.Databases.{DefineNothing, State, after_databases, after_items, after_placed, nothing_read}
-use Rattle.bt_resolve.specs.inner.Earlier.{AreEdited, AreKeptPieces, IsKnowing, piece_at}
+use Rattle.bt_resolve.specs.inner.Earlier.{AreEdited, AreKeptPieces, IsKnowing, all_pieces, piece_at}
 use Rattle.bt_resolve.specs.inner.Inheritance.{values_read}
 use Rattle.bt_resolve.specs.inner.Kept.{IsFound, asked_by, stored_for}
 use Rattle.bt_resolve.specs.inner.KnownEntries.{Gives, IsKnownContent, IsKnownPiece}
@@ -49,10 +49,11 @@ use Rattle.bt_resolve.proofs.BeforeLemmas.{macros_kept}
 use Rattle.bt_resolve.proofs.EditedLemmas.{items_split}
 use Rattle.bt_resolve.proofs.ItemsEditLemmas.{items_append}
 use Rattle.bt_resolve.proofs.KeptParts.{parts_of}
-use Rattle.bt_resolve.proofs.ListLemmas.{same_some}
+use Rattle.bt_resolve.proofs.ListLemmas.{same_some, set_other, set_same}
 use Rattle.bt_resolve.proofs.MovedItemLemmas.{entry_told}
 use Rattle.bt_resolve.proofs.PlacingLemmas.{StandsBehind, all_add, behind_both, items_add}
 use Rattle.bt_resolve.proofs.ReachLemmas.{after_pieces, reach_at, reaches_at}
+use Rattle.bt_resolve.proofs.SkeletonLemmas.{first_of}
 use Rattle.bt_resolve.proofs.SpanLemmas.{messages_are, stored_in_parts}
 
 -- ---- lists
@@ -82,10 +83,6 @@ take_one : (k : ℕ) (ps : List PlacedPiece) (p : PlacedPiece) → slice_get ps 
 take_one k [] p is = let none : Option PlacedPiece = None in let wrong : none ≡ Some p = is in cc
 take_one zero (x ∷ ps) p is = ap (λ (y : PlacedPiece). y ∷ []) (same_some x p is)
 take_one (suc k) (x ∷ ps) p is = ap (λ (qs : List PlacedPiece). x ∷ qs) (take_one k ps p is)
-
-abbrev first_of : Stored → List Stored → Stored
-first_of s [] = s
-first_of s (t ∷ ts) = t
 
 alike_at : (ss ts : List Stored) (vs : List (List (Option (List ℕ)))) (k : ℕ) (s : Stored) (v : List (Option (List ℕ))) → AreAlike ss ts → vs ≡ values_read ts → slice_get ss k ≡ Some s → slice_get vs k ≡ Some v →
     slice_get ts k ≡ Some (record s { values = v })
@@ -315,7 +312,7 @@ by_piece P x None is knows = absurd cc
 by_piece P x (Some p) is knows = subst P (same_some p.piece x is) (knows p refl)
 
 pub entry_known : (a : Asked) (database : ℕ) (new : List PlacedPiece) (k : KnownPieces) (index place : ℕ) (p : PlacedPiece) (first past : Reach) (s : Stored) (values : List (Option (List ℕ))) (macros : MacroTexts) → (knows : IsKnowing a database new k) →
-    piece_at new index ≡ piece_at knows.old place → slice_get new index ≡ Some p → k.free ≤ place → slice_get k.reaches.now place ≡ Some first → slice_get k.reaches.now (place + 1) ≡ Some past → first.stored < past.stored → first.told ≡ past.told →
+    piece_at new index ≡ piece_at knows.old place → slice_get new index ≡ Some p → k.strings_end ≤ place → slice_get k.reaches.now place ≡ Some first → slice_get k.reaches.now (place + 1) ≡ Some past → first.stored < past.stored → first.told ≡ past.told →
     slice_get k.found.now.store first.stored ≡ Some s → slice_get k.found.now.values first.stored ≡ Some values → macros ≡ known k.found.now.macros → IsKnownPiece a macros database (record s { values = values }) p.piece
 entry_known a database new k index place p first past s values macros knows same here behind first_is past_is less told s_is values_is macros_are =
     subst (λ (m : MacroTexts). IsKnownPiece a m database (record s { values = values }) p.piece) (sym macros_are)
@@ -325,19 +322,7 @@ entry_known a database new k index place p first past s values macros knows same
 
 -- ---- databases of which one may be edited
 
-set_same : {A : Type 0} (xs : List A) (k : ℕ) (x y : A) → slice_get xs k ≡ Some x → slice_get (slice_set xs k y) k ≡ Some y
-set_same {A} [] k x y is = let none : Option A = None in let wrong : none ≡ Some x = is in cc
-set_same (d ∷ xs) zero x y is = refl
-set_same (d ∷ xs) (suc k) x y is = set_same xs k x y is
-
-set_other : {A : Type 0} (xs : List A) (k n : ℕ) (y : A) → k ≢ n → slice_get (slice_set xs k y) n ≡ slice_get xs n
-set_other [] k n y other = refl
-set_other (d ∷ xs) zero zero y other = absurd (other refl)
-set_other (d ∷ xs) zero (suc n) y other = refl
-set_other (d ∷ xs) (suc k) zero y other = refl
-set_other (d ∷ xs) (suc k) (suc n) y other = set_other xs k n y (λ same. other (ap (λ m. suc m) same))
-
-all_kept : (old new : List PlacedPiece) → new ≡ old → AreKeptPieces old new (record { before = 0; added = 0; upto = 0 })
+all_kept : (old new : List PlacedPiece) → new ≡ old → AreKeptPieces old new all_pieces
 all_kept old new same =
     record {
       front = λ k less. ap (λ (ps : List PlacedPiece). piece_at ps k) same;
@@ -346,16 +331,20 @@ all_kept old new same =
           ap (λ (ps : List PlacedPiece). piece_at ps (0 + 0 + k)) same ∙ ap (piece_at old) sum;
     }
 
-pub nothing_edited : (q : Question) (databases : List (List PlacedPiece)) → databases ≡ q.databases → AreEdited q None databases
-nothing_edited q databases is = λ number new here old was.
-    all_kept old new (same_some new old (sym here ∙ ap (λ (ds : List (List PlacedPiece)). slice_get ds number) is ∙ was))
+all_either : (b : Bool) → all_pieces ≡ (if b then all_pieces else all_pieces)
+all_either true = refl
+all_either false = refl
+
+pub nothing_edited : (q : Question) (number : ℕ) (databases : List (List PlacedPiece)) → databases ≡ q.databases → AreEdited q (record { number = number; kept = all_pieces }) databases
+nothing_edited q number databases is = λ n new here old was.
+    subst (AreKeptPieces old new) (all_either (number == n)) (all_kept old new (same_some new old (sym here ∙ ap (λ (ds : List (List PlacedPiece)). slice_get ds n) is ∙ was)))
 
 pub one_edited : (q : Question) (number : ℕ) (items : List PlacedPiece) (kept : KeptPieces) (databases : List (List PlacedPiece)) → databases ≡ slice_set q.databases number items →
-    ((old : List PlacedPiece) → slice_get q.databases number ≡ Some old → AreKeptPieces old items kept) → AreEdited q (Some (record { number = number; kept = kept })) databases
+    ((old : List PlacedPiece) → slice_get q.databases number ≡ Some old → AreKeptPieces old items kept) → AreEdited q (record { number = number; kept = kept }) databases
 one_edited q number items kept databases is keeps = λ n new here old was. by_test n new old was (sym here ∙ ap (λ (ds : List (List PlacedPiece)). slice_get ds n) is) (number == n) refl
   where
     by_test : (n : ℕ) (new old : List PlacedPiece) → slice_get q.databases n ≡ Some old → Some new ≡ slice_get (slice_set q.databases number items) n → (b : Bool) → (number == n) ≡ b →
-        AreKeptPieces old new (if b then kept else record { before = 0; added = 0; upto = 0 })
+        AreKeptPieces old new (if b then kept else all_pieces)
     by_test n new old was here true test =
         let same : number ≡ n = (Decides-eqb number n).0 test in
         let there = ap (slice_get q.databases) same ∙ was in

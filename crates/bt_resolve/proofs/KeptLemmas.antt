@@ -1,7 +1,7 @@
 -- What an edit of one entry makes of a kept resolution.
 use Rattle.std.proofs.Common.{◌≡◌, ◌∙◌, ap, sym, refl, subst, append_assoc, ℕ, zero, suc, ◌+◌, ◌-◌, ◌<◌, ◌≤◌, IsTrue, List, [], ◌∷◌, ◌++◌, length, map, take, drop, reverse, get_or, Option, Some, None, arith}
 use Rattle.std.specs.Prelude.{IfSome, slice_get, slice_set}
-use Rattle.std.proofs.lemmas.List.{length-map, take_rest}
+use Rattle.std.proofs.lemmas.List.{length-map}
 use Rattle.std.proofs.lemmas.Option.{slice_get_read, slice_get_within}
 use Rattle.bt_bib.specs.Boundaries.{moved_piece}
 use Rattle.bt_bib.specs.Items.{PlacedItem, items_of}
@@ -49,8 +49,8 @@ use Rattle.bt_resolve.proofs.MarkLemmas.{span_is}
 use Rattle.bt_resolve.proofs.PatchLemmas.{messages_patched}
 use Rattle.bt_resolve.proofs.PlacingLemmas.{all_add, resolved_is, stored_is}
 use Rattle.bt_resolve.proofs.ReachLemmas.{GoOn, AllGoOn, itself_beside, macros_beside, stored_beside, pieces_moved, pieces_same, go_on_both, span_beside, one_database}
-use Rattle.bt_resolve.proofs.SkeletonLemmas.{one_list}
-use Rattle.bt_resolve.proofs.ListLemmas.{same_some}
+use Rattle.bt_resolve.proofs.SkeletonLemmas.{one_list, stored_of_values}
+use Rattle.bt_resolve.proofs.ListLemmas.{same_some, set_itself}
 
 -- ---- what the style sees
 
@@ -65,27 +65,6 @@ seen_messages q = refl
 seen_preamble : (q : Question) → (resolved_for q).preamble ≡ preamble q.declared.macros (items_in q)
 unfolding resolved
 seen_preamble q = refl
-
--- ---- what is stored
-
-abbrev first_of : Stored → List Stored → Stored
-first_of s [] = s
-first_of s (t ∷ ts) = t
-
-same_stored : (ss ts : List Stored) → AreAlike ss ts → values_read ss ≡ values_read ts → ss ≡ ts
-same_stored [] [] alike values = refl
-same_stored [] (t ∷ ts) alike values = absurd cc
-same_stored (s ∷ ss) [] alike values = absurd cc
-same_stored (s ∷ ss) (t ∷ ts) alike values =
-    let bare : skeleton s ≡ skeleton t = ap (first_of s) alike in
-    let own : s.values ≡ t.values = ap (λ l. get_or l 0 []) values in
-    let rest : ss ≡ ts = same_stored ss ts (ap (drop 1) alike) (ap (drop 1) values) in
-    λ j. record { key = (bare j).key; kind = (bare j).kind; function = (bare j).function; crossref = (bare j).crossref; values = own j } ∷ rest j
-
-set_itself : {A : Type 0} (xs : List A) (k : ℕ) (x : A) → slice_get xs k ≡ Some x → slice_set xs k x ≡ xs
-set_itself [] k x is = refl
-set_itself (d ∷ xs) zero x is = λ j. sym (same_some d x is) j ∷ xs
-set_itself (d ∷ xs) (suc k) x is = ap (λ ys. d ∷ ys) (set_itself xs k x is)
 
 -- ---- the edit
 
@@ -269,7 +248,7 @@ module _ (q : Question) (number : ℕ) (items old : List PlacedPiece) (e : Items
         let here : slice_get (values_read was_stored) (length (stored_first a ms ed)) ≡ Some t.values =
         (λ j. slice_get (sym values_is j) (sym place_is j)) ∙ own
         in
-        gives_same (same_stored is_stored_now was_stored (sym one.alike) (sym one.values ∙ set_itself (values_read was_stored) (length (stored_first a ms ed)) t.values here))
+        gives_same (stored_of_values is_stored_now was_stored (sym one.alike) (sym one.values ∙ set_itself (values_read was_stored) (length (stored_first a ms ed)) t.values here))
     stored_so t (Others o) one place place_is are =
         subst (λ (other : OtherEntries). Gives (Others other)) (sym are) (gives_others t one place place_is)
 
@@ -352,11 +331,11 @@ place_is q now number before ds x p place same ds_is x_is p_is =
 
 -- the macros there, if no string follows
 pub before_kept : (q now : Question) (number before : ℕ) (ds : List (List PlacedPiece)) (p : List PlacedPiece) (known : MacroTexts) → q ≡ now → ds ≡ q.databases → slice_get now.databases number ≡ Some p → known ≡ macros_behind q →
-    DefineNothing (items_of (take (length p - before) (drop before p))) → DefineNothing (all_items (map items_of (take (length ds - (number + 1)) (drop (number + 1) ds)))) → AreBefore now number before known
+    DefineNothing (items_of (drop before p)) → DefineNothing (all_items (map items_of (drop (number + 1) ds))) → AreBefore now number before known
 before_kept q now number before ds p known same ds_is here known_is none later ps there =
     let one : p ≡ ps = same_some p ps (sym here ∙ there) in
-    let rest = subst (λ (l : List PlacedPiece). DefineNothing (items_of l)) (take_rest p before ∙ ap (drop before) one) none in
-    let behind = subst (λ (l : List (List PlacedPiece)). DefineNothing (all_items (map items_of l))) (take_rest ds (number + 1) ∙ ap (drop (number + 1)) (ds_is ∙ ap (λ (k : Question). k.databases) same)) later in
+    let rest = subst (λ (l : List PlacedPiece). DefineNothing (items_of (drop before l))) one none in
+    let behind = subst (λ (l : List (List PlacedPiece)). DefineNothing (all_items (map items_of (drop (number + 1) l)))) (ds_is ∙ ap (λ (k : Question). k.databases) same) later in
     known_is ∙ ap macros_behind same ∙ macros_kept now.declared.macros now.databases number before ps there rest behind
 
 -- the macros there, as they are defined again

@@ -1,6 +1,7 @@
 -- Steps of the loops over places.
-use Rattle.std.proofs.Common.{◌≡◌, ◌∙◌, ap, sym, refl, ℕ, ◌+◌, ◌<◌, List, [], ◌∷◌, ◌++◌, length, take, get_or, append_assoc, append-nil, Bool, true, false, Option, Some}
-use Rattle.std.specs.Prelude.{◌==◌, ◌||◌, cond, unwrap_or, if◌then◌else◌}
+use Rattle.std.proofs.Common.{◌≡◌, ◌≢◌, ◌∙◌, ap, sym, refl, ℕ, zero, suc, ◌+◌, ◌<◌, List, [], ◌∷◌, ◌++◌, length, take, get_or, append_assoc, append-nil, Bool, true, false, Option, Some, None}
+use Rattle.std.specs.Prelude.{◌==◌, ◌||◌, cond, unwrap_or, if◌then◌else◌, slice_get, slice_set}
+use Rattle.std.specs.List.{list_any}
 use Rattle.std.proofs.lemmas.Bool.Decides.{Decides-eqb}
 use Rattle.std.proofs.lemmas.List.{take_more}
 use Rattle.std.proofs.lemmas.List.Folds.{list_any-append}
@@ -45,3 +46,33 @@ firsts_next true found x rest there =
 firsts_next false found x rest other =
     append_assoc found (x ∷ []) (firsts (found ++ x ∷ []) rest)
     ∙ ap (λ (b : Bool). found ++ (if b then firsts found rest else x ∷ firsts (found ++ x ∷ []) rest)) (sym other)
+
+-- ---- one element is replaced
+
+pub set_itself : {A : Type 0} (xs : List A) (k : ℕ) (x : A) → slice_get xs k ≡ Some x → slice_set xs k x ≡ xs
+set_itself [] k x is = refl
+set_itself (d ∷ xs) zero x is = λ j. sym (same_some d x is) j ∷ xs
+set_itself (d ∷ xs) (suc k) x is = ap (λ ys. d ∷ ys) (set_itself xs k x is)
+
+pub set_same : {A : Type 0} (xs : List A) (k : ℕ) (x y : A) → slice_get xs k ≡ Some x → slice_get (slice_set xs k y) k ≡ Some y
+set_same {A} [] k x y is = let none : Option A = None in let wrong : none ≡ Some x = is in cc
+set_same (d ∷ xs) zero x y is = refl
+set_same (d ∷ xs) (suc k) x y is = set_same xs k x y is
+
+pub set_other : {A : Type 0} (xs : List A) (k n : ℕ) (y : A) → k ≢ n → slice_get (slice_set xs k y) n ≡ slice_get xs n
+set_other [] k n y other = refl
+set_other (d ∷ xs) zero zero y other = absurd (other refl)
+set_other (d ∷ xs) zero (suc n) y other = refl
+set_other (d ∷ xs) (suc k) zero y other = refl
+set_other (d ∷ xs) (suc k) (suc n) y other = set_other xs k n y (λ same. other (ap (λ m. suc m) same))
+
+-- ---- an element passes a test
+
+or_true : (b : Bool) → b || true ≡ true
+or_true true = refl
+or_true false = refl
+
+pub any_at : {A : Type 0} (test : A → Bool) (xs : List A) (k : ℕ) (x : A) → slice_get xs k ≡ Some x → test x ≡ true → list_any test xs ≡ true
+any_at {A} test [] k x is passes = let none : Option A = None in let wrong : none ≡ Some x = is in cc
+any_at test (y ∷ xs) zero x is passes = ap (λ (b : Bool). b || list_any test xs) (ap test (same_some y x is) ∙ passes)
+any_at test (y ∷ xs) (suc k) x is passes = ap (λ (b : Bool). test y || b) (any_at test xs k x is passes) ∙ or_true (test y)

@@ -1,5 +1,5 @@
 -- What depends on skeletons alone.
-use Rattle.std.proofs.Common.{◌≡◌, ◌∙◌, ap, sym, refl, ℕ, suc, ◌+◌, Bool, List, [], ◌∷◌, ◌++◌, take, map, Option, Some, None}
+use Rattle.std.proofs.Common.{◌≡◌, ◌∙◌, ap, sym, refl, ℕ, suc, ◌+◌, Bool, List, [], ◌∷◌, ◌++◌, take, drop, map, get_or, Option, Some, None}
 use Rattle.std.specs.Prelude.{◌&&◌, ◌||◌, not, cond, slice_get, filter, filter_map, count_by, nat_lt, is_none, is_some, option_map, option_and_then, if◌then◌else◌}
 use Rattle.std.specs.List.{list_any, range_with_len, cons_option, flat_map}
 use Rattle.std.proofs.lemmas.List.{length-map}
@@ -19,6 +19,7 @@ use Rattle.bt_resolve.specs.inner.Cases.{cited_places, children, is_referred_to,
 use Rattle.bt_resolve.specs.Inherited.{is_left_out, final_crossref, key_spelled, entry_seen}
 use Rattle.bt_resolve.specs.References.{no_entry, reference_messages, missing_messages, list_messages}
 use Rattle.bt_resolve.specs.Skeletons.{skeleton, AreAlike, ListDependsOnSkeletons}
+use Rattle.bt_resolve.specs.inner.Inheritance.{values_read}
 
 -- ---- lists
 
@@ -33,6 +34,22 @@ first_map test f (x ∷ xs) = ap (λ (o : Option ℕ). if test (f x) then Some 0
 pub filter_map_map : {X Y Z : Type 0} (g : Y → Option Z) (f : X → Y) (xs : List X) → filter_map g (map f xs) ≡ filter_map (λ x. g (f x)) xs
 filter_map_map g f [] = refl
 filter_map_map {Z = Z} g f (x ∷ xs) = ap (λ (zs : List Z). cons_option (g (f x)) zs) (filter_map_map g f xs)
+
+-- ---- skeletons and values
+
+abbrev pub first_of : Stored → List Stored → Stored
+first_of s [] = s
+first_of s (t ∷ ts) = t
+
+pub stored_of_values : (ss ts : List Stored) → AreAlike ss ts → values_read ss ≡ values_read ts → ss ≡ ts
+stored_of_values [] [] alike values = refl
+stored_of_values [] (t ∷ ts) alike values = absurd cc
+stored_of_values (s ∷ ss) [] alike values = absurd cc
+stored_of_values (s ∷ ss) (t ∷ ts) alike values =
+    let bare : skeleton s ≡ skeleton t = ap (first_of s) alike in
+    let own : s.values ≡ t.values = ap (λ l. get_or l 0 []) values in
+    let rest : ss ≡ ts = stored_of_values ss ts (ap (drop 1) alike) (ap (drop 1) values) in
+    λ j. record { key = (bare j).key; kind = (bare j).kind; function = (bare j).function; crossref = (bare j).crossref; values = own j } ∷ rest j
 
 -- ---- the words of the list, of skeletons
 

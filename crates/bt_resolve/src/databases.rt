@@ -5,14 +5,12 @@
 //! tables of what the items so far have yielded. `specs/inner/Databases.antt` says how one more item changes it, and
 //! `proofs/PlacingLemmas.antt` proves that this is what the definitions say about an item at its place.
 
-ghost use Rattle.std.specs.Prelude.{◌≡◌, ◌+◌, ◌∷◌, [], List, ℕ, Some, IfOk, IfSome, IsTrue, OnOk, map, slice_get};
+ghost use Rattle.std.specs.Prelude.{◌≡◌, ◌∷◌, [], IfOk, IfSome, IsTrue, OnOk, map};
 ghost use Rattle.bt_bib.specs.BibText.{pieces_of};
 ghost use Rattle.bt_bib.specs.Items.{items_of};
-ghost use Rattle.bt_bib.specs.declared.placed_pieces.PlacedPiece.{PlacedPiece as PieceSeen};
 ghost use Rattle.bt_text.specs.NameList.{are_apart};
 ghost use Rattle.bt_resolve.specs.inner.Databases.{after_content, after_databases, after_item, after_items, nothing_read, state_of};
-ghost use Rattle.bt_resolve.specs.declared.asked.Asked.{Asked as AskedSeen};
-ghost use Rattle.bt_resolve.specs.inner.Earlier.{IsEarlier, IsKnowing};
+ghost use Rattle.bt_resolve.specs.inner.Earlier.{IsEarlier, IsKnowing, KnowsAt, KnowsDatabase};
 ghost use Rattle.bt_resolve.specs.inner.KnownEntries.{KnowsContent, KnowsPiece};
 ghost use Rattle.bt_resolve.specs.inner.Reaches.{database_reaches, reaches};
 
@@ -129,9 +127,7 @@ impl DatabaseReader<'_> {
 }
 
 fn known_entry(earlier: Option<KnownPieces<'_>>, index: usize) -> Option<KnownEntry<'_>>
-    ensures { IfSome result (λ known. (a : AskedSeen) (database : ℕ) (new : List PieceSeen) (p : PieceSeen) →
-        IfSome earlier.entry (IsKnowing a database new) → slice_get new index ≡ Some p →
-        KnowsPiece a database p.piece known) }
+    ensures { IfSome result (KnowsAt earlier.entry index) }
 {
     match &earlier {
         None => None,
@@ -140,9 +136,7 @@ fn known_entry(earlier: Option<KnownPieces<'_>>, index: usize) -> Option<KnownEn
 }
 
 fn known_pieces(earlier: Option<Earlier<'_>>, number: usize) -> Option<KnownPieces<'_>>
-    ensures { IfSome result (λ known. (a : AskedSeen) (databases : List (List PieceSeen)) (new : List PieceSeen) →
-        IfSome earlier.entry (IsEarlier a databases) → slice_get databases number ≡ Some new →
-        IsKnowing a (number + 1) new known) }
+    ensures { IfSome result (KnowsDatabase earlier.entry number) }
 {
     match &earlier {
         None => None,

@@ -1,25 +1,23 @@
 //! What an earlier resolution knows of databases that are read again.
 //!
-//! One more citation, or an edit of one item, may change which entries are stored. But it changes what is stored of hardly
-//! any of them, and to make their values anew would be most of the work. So the new reading asks the earlier resolution
-//! about each piece that both have. Which pieces those are follows from the edit: no text is compared.
+//! One more citation, or an edit of one item, changes which entries are stored, but hardly ever what is stored of an
+//! entry. Making all values again would be most of the work. So the new reading asks the earlier resolution about each
+//! piece that both have. Which pieces those are follows from the edit: no text is compared.
 //!
 //! Of the macros, a resolution keeps only what they stand for after all items. These are the macros before a piece, if no
 //! string follows it. So only pieces behind the last string are known.
 
-ghost use Rattle.std.specs.Prelude.{◌≡◌, ◌+◌, ◌≤◌, List, ℕ, Some, map, drop, slice_get, IfSome};
+ghost use Rattle.std.specs.Prelude.{◌≡◌, ◌≤◌, List, ℕ, Some, map, drop, IfSome};
 ghost use Rattle.bt_bib.specs.Items.{items_of};
 ghost use Rattle.bt_bib.specs.Splice.{IsItemsEdit};
 ghost use Rattle.bt_bib.specs.declared.placed_pieces.PlacedPiece.{PlacedPiece as PieceSeen};
-ghost use Rattle.bt_resolve.specs.declared.asked.Asked.{Asked};
 ghost use Rattle.bt_resolve.specs.Resolved.{all_items};
 ghost use Rattle.bt_resolve.specs.inner.Databases.{DefineNothing};
-ghost use Rattle.bt_resolve.specs.inner.Earlier.{AreKeptPieces, IsEarlier, IsKnowing, kept_in, piece_at};
-ghost use Rattle.bt_resolve.specs.inner.KnownEntries.{KnowsPiece};
+ghost use Rattle.bt_resolve.specs.inner.Earlier.{AreKeptPieces, KnowsAt, KnowsDatabase, all_pieces, kept_in, piece_at};
 
 use crate::kept::Found;
 use crate::known_entry::KnownEntry;
-use crate::macros_before::{define_nothing, strings_end};
+use crate::macros_before::{string_databases, strings_end};
 use crate::question::Question;
 use crate::reading::Reach;
 use bt_bib::{Items, ItemsEdit};
@@ -35,6 +33,17 @@ pub struct KeptPieces {
 }
 
 impl KeptPieces {
+    /// All pieces.
+    pub fn all() -> KeptPieces
+        ensures { result ≡ all_pieces }
+    {
+        KeptPieces {
+            before: 0,
+            added: 0,
+            upto: 0,
+        }
+    }
+
     /// Those that an edit of items keeps.
     pub fn of(edit: &ItemsEdit) -> KeptPieces
         ensures { (old new : List PieceSeen) → IsItemsEdit old new edit.now → AreKeptPieces old new result }
@@ -46,7 +55,7 @@ impl KeptPieces {
         }
     }
 
-    /// The index that a piece had.
+    /// The old index of the piece at this index, if the edit kept it.
     fn place(self, index: usize) -> Option<usize>
         ensures { IfSome result (λ place. (old new : List PieceSeen) → AreKeptPieces old new self →
             piece_at new index ≡ piece_at old place) }
@@ -63,7 +72,7 @@ impl KeptPieces {
     }
 }
 
-/// The edited one of several databases.
+/// The database that may be edited.
 #[derive(Clone, Copy)]
 pub struct EditedDatabase {
     /// Its number, from 0.
@@ -79,17 +88,16 @@ pub struct KnownPieces<'a> {
     pub reaches: &'a [Reach],
     pub kept: KeptPieces,
     /// The index behind the last string.
-    pub free: usize,
+    pub strings_end: usize,
 }
 
 impl<'a> KnownPieces<'a> {
     /// The entry of the piece at an index, if it was stored without a message.
     pub fn entry(&self, index: usize) -> Option<KnownEntry<'a>>
-        ensures { IfSome result (λ known. (a : Asked) (database : ℕ) (new : List PieceSeen) (p : PieceSeen) →
-            IsKnowing a database new self.now → slice_get new index ≡ Some p → KnowsPiece a database p.piece known) }
+        ensures { IfSome result (KnowsAt (Some self.now) index) }
     {
         let place = self.kept.place(index)?;
-        if place < self.free {
+        if place < self.strings_end {
             return None;
         }
         let first = self.reaches.get(place)?;
@@ -107,66 +115,48 @@ impl<'a> KnownPieces<'a> {
     }
 }
 
-/// The number of the database behind the last one that has a string.
-fn free_databases(databases: &[Shared<Items>]) -> usize
-    ensures { (k : ℕ) → result ≤ k → DefineNothing (all_items (map items_of (drop k databases.now))) }
-{
-    'databases: for k in 0..databases.len() {
-        let number = databases.len() - 1 - k;
-        let items = &databases[number];
-        if !define_nothing(items.pieces()) {
-            return number + 1;
-        }
-    }
-    0
-}
-
 /// An earlier resolution of the same databases, of which one may be edited.
 #[derive(Clone, Copy, Drop)]
 pub struct Earlier<'a> {
     pub question: &'a Question,
     pub found: &'a Found,
-    pub edited: Option<EditedDatabase>,
+    pub edited: EditedDatabase,
     /// No database from this number on has a string.
-    pub free: usize,
+    pub string_databases: usize,
 }
 
 impl<'a> Earlier<'a> {
-    pub fn new(question: &'a Question, found: &'a Found, edited: Option<EditedDatabase>) -> Self
+    pub fn new(question: &'a Question, found: &'a Found, edited: EditedDatabase) -> Self
         ensures question { result.question.now ≡ question.now }
         ensures found { result.found.now ≡ found.now }
         ensures edited { result.edited ≡ edited }
-        ensures free { (k : ℕ) → result.free ≤ k →
+        ensures strings { (k : ℕ) → result.string_databases ≤ k →
             DefineNothing (all_items (map items_of (drop k question.now.databases))) }
     {
-        let free = free_databases(question.databases.as_slice());
+        let string_databases = string_databases(question.databases.as_slice());
         Earlier {
             question,
             found,
             edited,
-            free,
+            string_databases,
         }
     }
 
     fn kept_pieces(&self, number: usize) -> KeptPieces
         ensures { result ≡ kept_in self.now.edited number }
     {
-        match self.edited {
-            Some(edited) if edited.number == number => edited.kept,
-            _ => KeptPieces {
-                before: 0,
-                added: 0,
-                upto: 0,
-            },
+        if self.edited.number == number {
+            self.edited.kept
+        } else {
+            KeptPieces::all()
         }
     }
 
     /// What is known of the pieces of a database.
     pub fn pieces(&self, number: usize) -> Option<KnownPieces<'a>>
-        ensures { IfSome result (λ known. (a : Asked) (databases : List (List PieceSeen)) (new : List PieceSeen) →
-            IsEarlier a databases self.now → slice_get databases number ≡ Some new → IsKnowing a (number + 1) new known) }
+        ensures { IfSome result (KnowsDatabase (Some self.now) number) }
     {
-        if number.checked_add(1)? < self.free {
+        if number.checked_add(1)? < self.string_databases {
             return None;
         }
         let databases = self.question.databases.as_slice();
@@ -176,7 +166,7 @@ impl<'a> Earlier<'a> {
             found: self.found,
             reaches: reaches.as_slice(),
             kept: self.kept_pieces(number),
-            free: strings_end(items.pieces()),
+            strings_end: strings_end(items.pieces()),
         })
     }
 }

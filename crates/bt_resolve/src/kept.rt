@@ -9,8 +9,7 @@
 //! list, the macros after all items, and the stored entries apart from their values. The present values have a list of
 //! their own.
 
-ghost use Rattle.std.specs.Prelude.{◌≡◌, ◌+◌, ◌++◌, ◌^◌, ◌<◌, ◌≤◌, length, map, IfOk, IfSome, IsTrue};
-ghost use Rattle.bt_bib.specs.Items.{items_of};
+ghost use Rattle.std.specs.Prelude.{◌≡◌, ◌+◌, ◌++◌, ◌^◌, ◌<◌, ◌≤◌, length, IfOk, IfSome, IsTrue};
 ghost use Rattle.bt_text.specs.ByName.{known};
 ghost use Rattle.bt_text.specs.NameList.{are_apart};
 ghost use Rattle.bt_resolve.specs.inner.Earlier.{AreEdited, IsEarlier};
@@ -25,7 +24,7 @@ use crate::entry::{Entry, Resolved};
 use crate::family::Family;
 use crate::inheritance::values_read;
 use crate::macro_text::MacroText;
-use crate::macros_before::{define_nothing, have_no_strings, macros_before};
+use crate::macros_before::{macros_before, string_databases, strings_end};
 use crate::moved_messages::patched;
 use crate::question::Question;
 use crate::reading::{Reach, Reading};
@@ -268,14 +267,13 @@ impl Resolution {
         Ok(Resolution { question, found })
     }
 
-    /// The same as `of`, for a question after this one: with the same declarations, and with the same databases, except
-    /// that one may be edited. Entries that this resolution stored aren't read again, if their macros stand for the
-    /// same. The only error is out of memory.
+    /// The same as `of`, reusing what this resolution stored. The question must have the same declarations, and the same
+    /// databases, of which one may be edited. The only error is out of memory.
     pub fn after(
         &self,
         alloc: Global,
         question: Question,
-        edited: Option<EditedDatabase>,
+        edited: EditedDatabase,
     ) -> Result<Resolution, AllocError>
         requires star { IfSome question.cites.star (λ before. before ≤ length question.cites.keys) }
         requires declared { question.declared ≡ self.now.declared }
@@ -315,8 +313,7 @@ impl Resolution {
         let databases = self.question.databases.as_slice();
         let items = &databases[number];
         let pieces = items.pieces();
-        let later = &databases[number + 1..];
-        if define_nothing(&pieces[before..]) && have_no_strings(later) {
+        if strings_end(pieces) <= before && string_databases(databases) <= number + 1 {
             return self.found.macros.share();
         }
         let style = self.question.declared.macros.as_slice();

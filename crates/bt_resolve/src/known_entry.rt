@@ -20,7 +20,7 @@ use std::alloc::{AllocError, Global};
 pub struct KnownEntry<'a> {
     /// What was stored, but perhaps with older values.
     pub stored: &'a Stored,
-    /// Its values.
+    /// Its present values.
     pub values: &'a Shared<FieldValues>,
     /// The macros before it.
     pub macros: &'a ByName<MacroText>,

@@ -5,7 +5,7 @@
 //! items, which a resolution keeps. Otherwise the strings before the item are defined again, which costs a look-up and a
 //! joined text for each.
 
-ghost use Rattle.std.specs.Prelude.{◌≡◌, ◌≤◌, ◌++◌, ◌∷◌, [], ℕ, drop, false, map, reverse, IfOk, IsTrue, OnOk};
+ghost use Rattle.std.specs.Prelude.{◌≡◌, ◌≤◌, ◌++◌, ◌∷◌, [], ℕ, drop, false, map, reverse, IfOk, OnOk};
 ghost use Rattle.bt_bib.specs.Items.{items_of};
 ghost use Rattle.bt_text.specs.ByName.{known};
 ghost use Rattle.bt_resolve.specs.Macros.{macro_before};
@@ -110,17 +110,6 @@ fn is_string(placed: &PlacedPiece) -> bool
     }
 }
 
-pub fn define_nothing(pieces: &[PlacedPiece]) -> bool
-    ensures { IsTrue result → DefineNothing (items_of pieces.now) }
-{
-    'pieces: for k in 0..pieces.len() {
-        if is_string(&pieces[k]) {
-            return false;
-        }
-    }
-    true
-}
-
 /// The index behind the last string.
 pub fn strings_end(pieces: &[PlacedPiece]) -> usize
     ensures { (k : ℕ) → result ≤ k → DefineNothing (items_of (drop k pieces.now)) }
@@ -134,16 +123,18 @@ pub fn strings_end(pieces: &[PlacedPiece]) -> usize
     0
 }
 
-pub fn have_no_strings(databases: &[Shared<Items>]) -> bool
-    ensures { IsTrue result → DefineNothing (all_items (map items_of databases.now)) }
+/// The number of the database behind the last one that has a string.
+pub fn string_databases(databases: &[Shared<Items>]) -> usize
+    ensures { (k : ℕ) → result ≤ k → DefineNothing (all_items (map items_of (drop k databases.now))) }
 {
     'databases: for k in 0..databases.len() {
-        let items = &databases[k];
-        if !define_nothing(items.pieces()) {
-            return false;
+        let number = databases.len() - 1 - k;
+        let items = &databases[number];
+        if strings_end(items.pieces()) > 0 {
+            return number + 1;
         }
     }
-    true
+    0
 }
 
 /// The macros after some databases and the first pieces of the next one.

@@ -1,17 +1,18 @@
 //! The messages of the list: about cross references, and about cited keys without an entry.
 
-ghost use Rattle.std.specs.Prelude.{◌≡◌, ◌++◌, option_and_then, option_copied, slice_get, IfOk, OnOk};
+ghost use Rattle.std.specs.Prelude.{◌≡◌, ◌++◌, option_and_then, option_copied, slice_get, true, IfOk, IsTrue, OnOk};
 ghost use Rattle.std.specs.List.{flat_map};
 ghost use Rattle.bt_resolve.specs.Inherited.{key_spelled};
 ghost use Rattle.bt_resolve.specs.Listed.{listed, place_of_key};
 ghost use Rattle.bt_resolve.specs.References.{about, bad_reference, list_messages, missing_messages, nested, no_entry, reference_messages};
+ghost use Rattle.bt_resolve.specs.Stored.{is_stored};
 ghost use Rattle.bt_resolve.specs.inner.Cases.{entry_messages, parent_messages};
 
 use crate::messages::add_message;
 use crate::stored::Stored;
 use crate::view::View;
 use bt_log::{Message, Rank, Said};
-use bt_text::{Bytes, NameList, Sequence, Shared};
+use bt_text::{Bytes, NameList, Sequence, Shared, equal_bytes};
 use std::alloc::{AllocError, Global};
 
 fn about(
@@ -80,6 +81,16 @@ fn no_entry(alloc: Global, key: &[u8]) -> Result<Message, AllocError>
     about(alloc, Rank::Warning, key, words, None)
 }
 
+/// A cited key as it is spelled there: the entry's own, shared, if it is the same.
+fn spelled_as(alloc: Global, cited: &[u8], key: &Shared<Bytes>) -> Result<Shared<Bytes>, AllocError>
+    ensures { IfOk result (λ text. text ≡ cited.now) }
+{
+    if equal_bytes(key.as_slice(), cited) {
+        return key.share();
+    }
+    Shared::<Bytes>::copied(alloc, cited)
+}
+
 /// A key, spelled as it is cited, or as in the database if it isn't cited.
 pub fn spelled(
     alloc: Global,
@@ -90,7 +101,7 @@ pub fn spelled(
 {
     match keys.find(alloc, key.as_slice())? {
         None => key.share(),
-        Some(cited) => Shared::<Bytes>::copied(alloc, cited.as_slice()),
+        Some(cited) => spelled_as(alloc, cited.as_slice(), key),
     }
 }
 
@@ -166,12 +177,38 @@ impl<'a> View<'a> {
         Ok(())
     }
 
+    /// Whether the entry at an index of the list has this key, byte for byte.
+    fn is_listed_as(&self, key: &[u8], places: &[usize], index: usize) -> bool
+        ensures { IsTrue result → is_stored self.now.family.now key.now ≡ true }
+    {
+        if index >= places.len() {
+            return false;
+        }
+        self.is_of_key(places[index], key)
+    }
+
+    /// Whether a key has an entry. The list mostly has it at the key's index: then nothing is hashed.
+    fn has_entry(&self, key: &[u8], places: &[usize], index: usize) -> Result<bool, AllocError>
+        ensures { IfOk result (λ stored. stored ≡ is_stored self.now.family.now key.now) }
+    {
+        if self.is_listed_as(key, places, index) {
+            return Ok(true);
+        }
+        self.family.has(self.alloc, key)
+    }
+
     #[tactic(auto, unfolding(crate::specs::References::missing_messages))]
-    fn missing(&self, key: &[u8], messages: &mut Sequence<Message>) -> Result<(), AllocError>
+    fn missing(
+        &self,
+        key: &[u8],
+        places: &[usize],
+        index: usize,
+        messages: &mut Sequence<Message>,
+    ) -> Result<(), AllocError>
         ensures { OnOk result (messages.new ≡ messages.old
             ++ missing_messages self.now.family.now key.now) }
     {
-        if self.family.has(self.alloc, key)? {
+        if self.has_entry(key, places, index)? {
             Ok(())
         } else {
             add_message(messages, no_entry(self.alloc, key)?)
@@ -181,13 +218,14 @@ impl<'a> View<'a> {
     fn all_missing(
         &self,
         keys: &[Bytes],
+        places: &[usize],
         messages: &mut Sequence<Message>,
     ) -> Result<(), AllocError>
         ensures { OnOk result (messages.new ≡ messages.old
             ++ flat_map (missing_messages self.now.family.now) keys.now) }
     {
-        'keys: for key in keys {
-            self.missing(key.as_slice(), messages)?;
+        'keys: for k in 0..keys.len() {
+            self.missing(keys[k].as_slice(), places, k, messages)?;
         }
         Ok(())
     }
@@ -204,6 +242,6 @@ impl<'a> View<'a> {
             ++ list_messages self.now.asked.now self.now.family.now) }
     {
         self.references(places, messages)?;
-        self.all_missing(self.asked.keys.as_slice(), messages)
+        self.all_missing(self.asked.keys.as_slice(), places, messages)
     }
 }

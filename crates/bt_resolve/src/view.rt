@@ -1,10 +1,11 @@
 //! The entries that the style sees.
 
-ghost use Rattle.std.specs.Prelude.{◌≡◌, ◌++◌, ◌∷◌, [], slice_get, IfOk, OnOk};
+ghost use Rattle.std.specs.Prelude.{◌≡◌, ◌++◌, ◌∷◌, [], Some, not, option_map, true, slice_get, IfOk, IsTrue, OnOk};
 ghost use Rattle.bt_resolve.specs.Inherited.{entry_seen, final_crossref, is_left_out};
+ghost use Rattle.bt_resolve.specs.declared.stored.Stored.{Stored as StoredSeen};
 ghost use Rattle.bt_resolve.specs.inner.Cases.{entry_at, with_crossref};
 ghost use Rattle.bt_resolve.specs.Names.{crossref, place_of_name};
-ghost use Rattle.bt_resolve.specs.Listed.{listed};
+ghost use Rattle.bt_resolve.specs.Listed.{is_cited_at, listed};
 ghost use Rattle.bt_resolve.specs.inner.Heirs.{entries_after, is_marked, made_at, made_if};
 ghost use Rattle.bt_resolve.specs.inner.Inheritance.{seen_of, shown_among};
 
@@ -18,7 +19,7 @@ use crate::list::is_cited_at;
 use crate::references::spelled;
 use crate::seen_values::{put_crossref, shared_at};
 use crate::stored::{FieldValues, Stored};
-use bt_text::{Bytes, Sequence, Shared};
+use bt_text::{Bytes, Sequence, Shared, equal_bytes};
 use std::alloc::{AllocError, Global};
 
 /// The entries that the style sees, and their places among the stored ones.
@@ -67,6 +68,39 @@ impl View<'_> {
                 && !is_cited_at(self.alloc, &self.asked.keys, self.family, place)?
                 && self.family.children(place) < self.min as usize,
         )
+    }
+
+    /// Whether the entry at a place has this key, byte for byte.
+    pub fn is_of_key(&self, place: usize, key: &[u8]) -> bool
+        ensures { IsTrue result → option_map (λ (s : StoredSeen). s.key) (slice_get self.now.family.now place) ≡ Some key.now }
+    {
+        match self.family.entries().get(place) {
+            None => false,
+            Some(entry) => equal_bytes(entry.key.as_slice(), key),
+        }
+    }
+
+    /// Whether the entry at a place has the cited key at an index, byte for byte.
+    fn is_cited_as(&self, place: usize, index: usize) -> bool
+        ensures { IsTrue result → is_cited_at self.now.asked.now.keys self.now.family.now place ≡ true }
+    {
+        let keys = self.asked.keys.as_slice();
+        if index >= keys.len() {
+            return false;
+        }
+        self.is_of_key(place, keys[index].as_slice())
+    }
+
+    /// Whether the list shows the entry at a place. It mostly has the cited key at its index in the list: then nothing is
+    /// hashed.
+    fn is_shown(&self, place: usize, index: usize) -> Result<bool, AllocError>
+        ensures { IfOk result (λ shown. shown
+            ≡ not (is_left_out self.now.asked.now self.now.min self.now.family.now place)) }
+    {
+        if self.is_cited_as(place, index) {
+            return Ok(true);
+        }
+        Ok(!self.is_left_out(place)?)
     }
 
     /// The final field `crossref` of an entry: missing if no entry has that key, or if that entry is left out.
@@ -135,10 +169,15 @@ impl View<'_> {
         }
     }
 
-    fn add_shown(&self, place: usize, shown: &mut Sequence<usize>) -> Result<(), AllocError>
+    fn add_shown(
+        &self,
+        place: usize,
+        index: usize,
+        shown: &mut Sequence<usize>,
+    ) -> Result<(), AllocError>
         ensures { OnOk result (shown.new ≡ shown.old ++ shown_among self.now (place ∷ [])) }
     {
-        if self.is_left_out(place)? {
+        if !self.is_shown(place, index)? {
             return Ok(());
         }
         shown.push(place)?;
@@ -149,8 +188,8 @@ impl View<'_> {
         ensures { IfOk result (λ shown. shown ≡ shown_among self.now places.now) }
     {
         let mut shown = Sequence::new(self.alloc);
-        'places: for place in places {
-            self.add_shown(*place, &mut shown)?;
+        'places: for k in 0..places.len() {
+            self.add_shown(places[k], k, &mut shown)?;
         }
         Ok(shown)
     }

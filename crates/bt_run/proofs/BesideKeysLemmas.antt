@@ -24,7 +24,8 @@ use Rattle.bt_run.specs.Meaning.{first_globals, run_begun}
 use Rattle.bt_run.specs.ReadCommand.{Job, list_order}
 use Rattle.bt_run.specs.SortCommand.{key_at, sorted}
 use Rattle.bt_run.specs.Work.{IsStep, same_key}
-use Rattle.bt_run.specs.inner.Beside.{AreBefore, AreForEach, FitsBetween, HasKey, IsUpTo, KeepEntries, Other, SortsAlike, commands_run, is_for, keeps_entries}
+use Rattle.bt_run.specs.inner.Beside.{AreBefore, AreForEach, Difference, HasKey, SortsAlike, commands_run, is_for}
+use Rattle.bt_run.specs.inner.SortOrder.{FitsBetween, IsUpTo, KeepEntries, keeps_entries}
 use Rattle.bt_run.specs.inner.Cases.{command, site_of, sort_key, sorted_run, unless_stopped}
 use Rattle.bt_run.specs.inner.Course.{IsArranged, IsOrdered, recorded}
 use Rattle.bt_run.proofs.BesideLemmas.{all_taken, app, commands_add, stepped_is}
@@ -302,7 +303,7 @@ module _ (job : Job) (law : DependsOnInput job.program) where
       ]
 
       -- SORT gives both the same order where the new sort key is the old one.
-      pub sorts_as_before : (o : Other) (k : ℕ) (s : Step) (e : Entry) → slice_get (commands_run job log).seen k ≡ Some s → s.command ≡ iterate_number → IsStep job.program s → is_for key s ≡ true → s.input.entry ≡ Some e → sort_key o.entry ≡ sort_key e → SortsAlike n o unsorted.course
+      pub sorts_as_before : (o : Difference) (k : ℕ) (s : Step) (e : Entry) → slice_get (commands_run job log).seen k ≡ Some s → s.command ≡ iterate_number → IsStep job.program s → is_for key s ≡ true → s.input.entry ≡ Some e → sort_key o.entry ≡ sort_key e → SortsAlike n o unsorted.course
       sorts_as_before o k s e at of is own entry same =
           let i = which k s at of in
           let place = place_is i.0 s is own i.2 in
@@ -310,7 +311,7 @@ module _ (job : Job) (law : DependsOnInput job.program) where
           sorts_same n o unsorted.course (same ∙ ap sort_key there ∙ ap (key_at unsorted.course.entries) place)
 
       -- SORT gives both the same order where the new sort key fits between those of the neighbours' steps.
-      pub sorts_by_steps : (o : Other) (k : ℕ) (s : Step) → slice_get (commands_run job log).seen k ≡ Some s → s.command ≡ iterate_number → IsStep job.program s → is_for key s ≡ true → FitsBetween (commands_run job log).seen iterate_number k (sort_key o.entry) → SortsAlike n o unsorted.course
+      pub sorts_by_steps : (o : Difference) (k : ℕ) (s : Step) → slice_get (commands_run job log).seen k ≡ Some s → s.command ≡ iterate_number → IsStep job.program s → is_for key s ≡ true → FitsBetween (commands_run job log).seen iterate_number k (sort_key o.entry) → SortsAlike n o unsorted.course
       sorts_by_steps o k s at of is own fits =
           let i = which k s at of in
           let entries = unsorted.course.entries in

@@ -19,7 +19,7 @@ use Rattle.bt_run.specs.Commands.{commands_from, iterated}
 use Rattle.bt_run.specs.Course.{Recorded, course_world, input_at, step_kept, stepped}
 use Rattle.bt_run.specs.ReadCommand.{Job}
 use Rattle.bt_run.specs.Work.{IsStep, own_left}
-use Rattle.bt_run.specs.inner.Beside.{AreBeside, Fits, IsOther, Other, beside, is_for, left}
+use Rattle.bt_run.specs.inner.Beside.{AreBeside, Difference, Fits, IsNewStep, beside, is_for, left}
 use Rattle.bt_run.specs.inner.Cases.{all_told, unless_stopped}
 use Rattle.bt_run.specs.inner.Course.{put_back, recorded, variables_back, with_variables}
 use Rattle.bt_run.proofs.CourseLemmas.{length-variables_back, ordered_back, step_taken}
@@ -35,12 +35,12 @@ keys_stay x v es m = ap (λ (d : Entry). d.key) (fixed_back x v es m)
 -- Two runs go on from a course, the second one beside the first: its steps are beside those of the first.
 abbrev pub GoBeside : Program → ℕ → List ℕ → (Recorded (List Step) → Recorded (List Step)) → (Recorded (List Step) → Recorded (List Step)) → Course → Type 0
 GoBeside p n key run other r =
-    (o last : Other) (seen us : List Step) → Fits n key r → AreBeside p key o (run (recorded r [])).seen us last →
+    (o last : Difference) (seen us : List Step) → Fits n key r → AreBeside p key o (run (recorded r [])).seen us last →
     (other (recorded (beside n o r) seen) ≡ recorded (beside n last (run (recorded r [])).course) (seen ++ us))
     × Fits n key (run (recorded r [])).course
 
 -- no step
-pub none_beside : (p : Program) (n : ℕ) (key : List ℕ) (r : Course) (o last : Other) (seen us : List Step) → Fits n key r → AreBeside p key o [] us last →
+pub none_beside : (p : Program) (n : ℕ) (key : List ℕ) (r : Course) (o last : Difference) (seen us : List Step) → Fits n key r → AreBeside p key o [] us last →
     (recorded (beside n o r) seen ≡ recorded (beside n last r) (seen ++ us)) × Fits n key r
 none_beside p n key r o last seen [] f is =
     let run : recorded (beside n o r) seen ≡ recorded (beside n last r) (seen ++ []) = λ j. recorded (beside n (sym is j) r) (sym (append-nil seen) j) in
@@ -48,19 +48,17 @@ none_beside p n key r o last seen [] f is =
 none_beside p n key r o last seen (u ∷ us) f is = absurd is
 
 -- A step for another entry that is given what it was given before is beside itself.
-pub self_beside : (p : Program) (key : List ℕ) (o : Other) (s : Step) → IsStep p s → is_for key s ≡ false → o.globals ≡ s.input.globals → o.held ≡ s.input.held →
-    IsOther (is_for key s) p o s s × (left (is_for key s) o s ≡ record { entry = o.entry; globals = s.outcome.globals; held = s.outcome.held })
+pub self_beside : (p : Program) (key : List ℕ) (o : Difference) (s : Step) → IsStep p s → is_for key s ≡ false → o.globals ≡ s.input.globals → o.held ≡ s.input.held →
+    IsNewStep (is_for key s) p o s s × (left (is_for key s) o s ≡ record { entry = o.entry; globals = s.outcome.globals; held = s.outcome.held })
 self_beside p key o s is other globals held =
-    let same : IsOther false p o s s = record {
+    let same : IsNewStep false p o s s = record {
       is = is;
       command = refl;
       input = λ j. record s.input { globals = sym globals j; held = sym held j };
-      messages = refl;
-      stop = refl;
-      variables = λ no. refl;
+      left = record { stop = refl; messages = refl; variables = λ no. refl };
     }
     in
-    (subst (λ (b : Bool). IsOther b p o s s) (sym other) same, ap (λ (b : Bool). left b o s) other)
+    (subst (λ (b : Bool). IsNewStep b p o s s) (sym other) same, ap (λ (b : Bool). left b o s) other)
 
 module _ (p : Program) (law : DependsOnInput p) (site : CommandPlace) (t : Target) where
   -- the step that a run takes, and the run after it
@@ -88,40 +86,40 @@ module _ (p : Program) (law : DependsOnInput p) (site : CommandPlace) (t : Targe
   pub below_after : (x : Option ℕ) (r : Course) (ms : List ℕ) → All (λ m. m < length r.entries) ms → All (λ m. m < length (after x r).entries) ms
   below_after x r ms h = subst (λ (c : ℕ). All (λ m. m < c) ms) (sym (length-variables_back x (own_step x r).outcome.variables r.entries)) h
 
-  -- the run beside, with another entry at a place
+  -- the new run's course, with the changed entry at a place
   module _ (n : ℕ) (key : List ℕ) where
     within : (es : List Entry) (m : ℕ) (e : Entry) → m < length es → m < length (slice_set es n e)
     within es m e lt = omega (arith, lt, length-set es n e)
 
-    -- One step, given that its entry and the entries after it are those of the run beside.
-    taken_beside : (own : Bool) (x : Option ℕ) (r : Course) (o : Other) (seen : List Step) (u : Step) → IsPlace x (course_world (beside n o r)) →
+    -- One step, given that its entry and the entries after it are those of the new run.
+    taken_beside : (own : Bool) (x : Option ℕ) (r : Course) (o : Difference) (seen : List Step) (u : Step) → IsPlace x (course_world (beside n o r)) →
         (if own then Some o.entry else entry_in r.entries x) ≡ entry_in (slice_set r.entries n o.entry) x →
         slice_set (variables_back x (own_step x r).outcome.variables r.entries) n (left own o u).entry ≡ variables_back x u.outcome.variables (slice_set r.entries n o.entry) →
-        IsOther own p o (own_step x r) u →
+        IsNewStep own p o (own_step x r) u →
         stepped app p site t x (recorded (beside n o r) seen) ≡ recorded (beside n (left own o u) (after x r)) (app seen u)
     taken_beside own x r o seen u place entry entries h =
         let input : u.input ≡ input_at t x (course_world (beside n o r)) =
         h.input ∙ (λ j. record { target = t; entry = entry j; globals = o.globals; held = o.held; preamble = r.preamble })
         in
         let back : beside n (left own o u) (after x r) ≡ put_back site x u.outcome (beside n o r) =
-        λ j. record r { entries = entries j; globals = u.outcome.globals; held = u.outcome.held; log = r.log ++ all_told site.line site.style (sym h.messages j); stopped = sym h.stop j }
+        λ j. record r { entries = entries j; globals = u.outcome.globals; held = u.outcome.held; log = r.log ++ all_told site.line site.style (sym h.left.messages j); stopped = sym h.left.stop j }
         in
         sym (step_taken app p law site t x (beside n o r) seen (app seen u) (beside n (left own o u) (after x r)) u place h.command input h.is back refl)
 
-    beside_other : (m : ℕ) (r : Course) (o : Other) (seen : List Step) (u : Step) → m ≢ n → m < length r.entries → IsOther false p o (own_step (Some m) r) u →
+    beside_other : (m : ℕ) (r : Course) (o : Difference) (seen : List Step) (u : Step) → m ≢ n → m < length r.entries → IsNewStep false p o (own_step (Some m) r) u →
         stepped app p site t (Some m) (recorded (beside n o r) seen) ≡ recorded (beside n (left false o u) (after (Some m) r)) (app seen u)
     beside_other m r o seen u other lt h =
         let s = own_step (Some m) r in
         let same = get_or-set_other r.entries n m o.entry no_entry other in
         let was = slice_index_or r.entries m no_entry in
         let entries : slice_set (variables_back (Some m) s.outcome.variables r.entries) n o.entry ≡ variables_back (Some m) u.outcome.variables (slice_set r.entries n o.entry) =
-        ap (λ (v : Option Variables). slice_set (variables_back (Some m) v r.entries) n o.entry) (sym (h.variables refl))
+        ap (λ (v : Option Variables). slice_set (variables_back (Some m) v r.entries) n o.entry) (sym (h.left.variables refl))
         ∙ sym (set_comm r.entries n m o.entry (with_variables u.outcome.variables was) (λ is_m. other (sym is_m)))
         ∙ sym (ap (λ (d : Entry). slice_set (slice_set r.entries n o.entry) m (with_variables u.outcome.variables d)) same)
         in
         taken_beside false (Some m) r o seen u (within r.entries m o.entry lt) (ap (λ (d : Entry). Some d) (sym same)) entries h
 
-    beside_own : (r : Course) (o : Other) (seen : List Step) (u : Step) → n < length r.entries → IsOther true p o (own_step (Some n) r) u →
+    beside_own : (r : Course) (o : Difference) (seen : List Step) (u : Step) → n < length r.entries → IsNewStep true p o (own_step (Some n) r) u →
         stepped app p site t (Some n) (recorded (beside n o r) seen) ≡ recorded (beside n (left true o u) (after (Some n) r)) (app seen u)
     beside_own r o seen u lt h =
         let s = own_step (Some n) r in
@@ -149,20 +147,20 @@ module _ (p : Program) (law : DependsOnInput p) (site : CommandPlace) (t : Targe
         }
 
     -- what holds of a step for an entry at a place, or for none
-    abbrev StepHolds : Course → Other → List Step → Step → Option ℕ → Type 0
+    abbrev StepHolds : Course → Difference → List Step → Step → Option ℕ → Type 0
     StepHolds r o seen u x =
-        IsPlace x (course_world r) → IsOther (is_for key (own_step x r)) p o (own_step x r) u →
+        IsPlace x (course_world r) → IsNewStep (is_for key (own_step x r)) p o (own_step x r) u →
         stepped app p site t x (recorded (beside n o r) seen) ≡ recorded (beside n (left (is_for key (own_step x r)) o u) (after x r)) (app seen u)
 
-    holds_so : (own : Bool) (x : Option ℕ) (r : Course) (o : Other) (seen : List Step) (u : Step) → is_for key (own_step x r) ≡ own →
-        (IsOther own p o (own_step x r) u → stepped app p site t x (recorded (beside n o r) seen) ≡ recorded (beside n (left own o u) (after x r)) (app seen u)) →
-        IsOther (is_for key (own_step x r)) p o (own_step x r) u →
+    holds_so : (own : Bool) (x : Option ℕ) (r : Course) (o : Difference) (seen : List Step) (u : Step) → is_for key (own_step x r) ≡ own →
+        (IsNewStep own p o (own_step x r) u → stepped app p site t x (recorded (beside n o r) seen) ≡ recorded (beside n (left own o u) (after x r)) (app seen u)) →
+        IsNewStep (is_for key (own_step x r)) p o (own_step x r) u →
         stepped app p site t x (recorded (beside n o r) seen) ≡ recorded (beside n (left (is_for key (own_step x r)) o u) (after x r)) (app seen u)
     holds_so own x r o seen u is h g =
-        h (subst (λ (b : Bool). IsOther b p o (own_step x r) u) is g)
+        h (subst (λ (b : Bool). IsNewStep b p o (own_step x r) u) is g)
         ∙ ap (λ (b : Bool). recorded (beside n (left b o u) (after x r)) (app seen u)) (sym is)
 
-    step_beside : (x : Option ℕ) (r : Course) (o : Other) (seen : List Step) (u : Step) → Fits n key r → StepHolds r o seen u x
+    step_beside : (x : Option ℕ) (r : Course) (o : Difference) (seen : List Step) (u : Step) → Fits n key r → StepHolds r o seen u x
     step_beside None r o seen u f = λ lt h. taken_beside false None r o seen u tt refl refl h
     step_beside (Some m) r o seen u f = elim (cases_eq m n) [
       | inl same ↦
@@ -178,7 +176,7 @@ module _ (p : Program) (law : DependsOnInput p) (site : CommandPlace) (t : Targe
 
     -- the first step, and those after it
     taken_next : (m : ℕ) (ms : List ℕ) (r : Course) → m < length r.entries → RunHolds (iterated app p site t ms) (after (Some m) r) →
-        (o last : Other) (seen us : List Step) → Fits n key r → AreBeside p key o (own_step (Some m) r ∷ (all_taken ms (after (Some m) r)).seen) us last →
+        (o last : Difference) (seen us : List Step) → Fits n key r → AreBeside p key o (own_step (Some m) r ∷ (all_taken ms (after (Some m) r)).seen) us last →
         (iterated app p site t ms (stepped app p site t (Some m) (recorded (beside n o r) seen)) ≡ recorded (beside n last (all_taken ms (after (Some m) r)).course) (seen ++ us))
         × Fits n key (all_taken ms (after (Some m) r)).course
     taken_next m ms r lt rest o last seen [] f is = absurd is
@@ -193,7 +191,7 @@ module _ (p : Program) (law : DependsOnInput p) (site : CommandPlace) (t : Targe
 
     -- the same of a run whose steps are known
     known_run : (run : Recorded (List Step) → Recorded (List Step)) (r next : Course) (ss : List Step) → run (recorded r []) ≡ recorded next ss →
-        ((o last : Other) (seen us : List Step) → Fits n key r → AreBeside p key o ss us last → (run (recorded (beside n o r) seen) ≡ recorded (beside n last next) (seen ++ us)) × Fits n key next) →
+        ((o last : Difference) (seen us : List Step) → Fits n key r → AreBeside p key o ss us last → (run (recorded (beside n o r) seen) ≡ recorded (beside n last next) (seen ++ us)) × Fits n key next) →
         RunHolds run r
     known_run run r next ss is h = λ o last seen us f are.
         let so = h o last seen us f (subst (λ (q : Recorded (List Step)). AreBeside p key o q.seen us last) is are) in
@@ -218,7 +216,7 @@ module _ (p : Program) (law : DependsOnInput p) (site : CommandPlace) (t : Targe
 
     -- one step for no entry
 
-    one_taken : (r : Course) (o last : Other) (seen us : List Step) → Fits n key r → AreBeside p key o (own_step None r ∷ []) us last →
+    one_taken : (r : Course) (o last : Difference) (seen us : List Step) → Fits n key r → AreBeside p key o (own_step None r ∷ []) us last →
         (stepped app p site t None (recorded (beside n o r) seen) ≡ recorded (beside n last (after None r)) (seen ++ us)) × Fits n key (after None r)
     one_taken r o last seen [] f is = absurd is
     one_taken r o last seen (u ∷ us) f is =
@@ -238,15 +236,15 @@ all_reversed P ms h k d lt =
     subst P (sym (get_or-reverse ms k d (omega (arith, lt, count)))) (h (length ms - 1 - k) d (omega (arith, lt, count)))
 
 -- steps beside two lists of steps, one after the other
-pub record Parts (p : Program) (key : List ℕ) (o : Other) (ss ts us : List Step) (last : Other) : Type 0 where
-  pub mid : Other
+pub record Parts (p : Program) (key : List ℕ) (o : Difference) (ss ts us : List Step) (last : Difference) : Type 0 where
+  pub mid : Difference
   pub first : List Step
   pub second : List Step
   pub whole : us ≡ first ++ second
   pub before : AreBeside p key o ss first mid
   pub behind : AreBeside p key mid ts second last
 
-pub parted : (p : Program) (key : List ℕ) (ss ts us : List Step) (o last : Other) → AreBeside p key o (ss ++ ts) us last → Parts p key o ss ts us last
+pub parted : (p : Program) (key : List ℕ) (ss ts us : List Step) (o last : Difference) → AreBeside p key o (ss ++ ts) us last → Parts p key o ss ts us last
 parted p key [] ts us o last is = record { mid = o; first = []; second = us; whole = refl; before = refl; behind = is }
 parted p key (s ∷ ss) ts [] o last is = absurd is
 parted p key (s ∷ ss) ts (u ∷ us) o last is =
@@ -254,8 +252,8 @@ parted p key (s ∷ ss) ts (u ∷ us) o last is =
     record { mid = rest.mid; first = u ∷ rest.first; second = rest.second; whole = ap (λ (vs : List Step). u ∷ vs) rest.whole; before = (is.0, rest.before); behind = rest.behind }
 
 -- and back
-pub joined : (p : Program) (key : List ℕ) (ss ts us vs : List Step) (o mid last : Other) → AreBeside p key o ss us mid → AreBeside p key mid ts vs last → AreBeside p key o (ss ++ ts) (us ++ vs) last
-joined p key [] ts [] vs o mid last h g = subst (λ (m : Other). AreBeside p key m ts vs last) h g
+pub joined : (p : Program) (key : List ℕ) (ss ts us vs : List Step) (o mid last : Difference) → AreBeside p key o ss us mid → AreBeside p key mid ts vs last → AreBeside p key o (ss ++ ts) (us ++ vs) last
+joined p key [] ts [] vs o mid last h g = subst (λ (m : Difference). AreBeside p key m ts vs last) h g
 joined p key [] ts (u ∷ us) vs o mid last h g = absurd h
 joined p key (s ∷ ss) ts [] vs o mid last h g = absurd h
 joined p key (s ∷ ss) ts (u ∷ us) vs o mid last h g = (h.0, joined p key ss ts us vs (left (is_for key s) o u) mid last h.1 g)

@@ -1,21 +1,19 @@
--- What files mean in which READ finds one entry otherwise, by the run beside that of the files before.
-use Rattle.std.proofs.Common.{◌≡◌, refl, sym, ap, ◌∙◌, ℕ, ◌<◌, List, ◌++◌, Some, Ok}
+-- What the new files mean, by the new run beside the old one.
+use Rattle.std.proofs.Common.{◌≡◌, refl, sym, ap, ◌∙◌, ℕ, List, ◌++◌, Some, Ok}
 use Rattle.bt_style.specs.Program.{Program}
 use Rattle.bt_style.specs.Reader.{style_of}
-use Rattle.bt_log.specs.declared.message.Message.{Message}
 use Rattle.bt_job.specs.declared.citations.Citations.{Citations}
 use Rattle.bt_job.specs.declared.files.File.{File}
 use Rattle.bt_job.specs.Citations.{citations}
 use Rattle.bt_run.specs.declared.course.Step.{Step}
 use Rattle.bt_run.specs.Counts.{calls_at, counts_told}
 use Rattle.bt_run.specs.Course.{Recorded}
-use Rattle.bt_run.specs.Meaning.{Meaning, meaning, trace}
-use Rattle.bt_run.specs.inner.Beside.{Other, beside, commands_run}
+use Rattle.bt_run.specs.Meaning.{meaning, trace}
+use Rattle.bt_run.specs.inner.Beside.{Difference, beside, commands_run}
 use Rattle.bt_run.specs.inner.Cases.{bbl_of, job_for, run_with, shown_of, text_in, with_counts}
 use Rattle.bt_run.specs.inner.Course.{recorded}
 use Rattle.bt_run.specs.inner.Steps.{run_shown}
 use Rattle.bt_run.proofs.AnswerLemmas.{kept_steps, meant, style_read}
-use Rattle.bt_run.proofs.CountLemmas.{counted_alike}
 
 -- a run under a style that could be read
 module _ (files : List File) (root : List ℕ) (min : ℕ) (c : Citations) (name text : List ℕ) (p : Program) (cited : c ≡ citations files root) (named : c.style ≡ Some name) (is_text : text ≡ text_in files name) (read : style_of text ≡ Ok p) where
@@ -32,7 +30,7 @@ module _ (files : List File) (root : List ℕ) (min : ℕ) (c : Citations) (name
   run_meaning = meant files root min c (with_counts run) c.wanted (run_shown (with_counts run) c.wanted) refl whole refl cited
 
 module _ (was files : List File) (root : List ℕ) (min : ℕ) (c : Citations) (name text : List ℕ) (p : Program) (cited_was : c ≡ citations was root) (cited : c ≡ citations files root) (named : c.style ≡ Some name) (was_text : text ≡ text_in was name) (is_text : text ≡ text_in files name) (read : style_of text ≡ Ok p)
-    (n : ℕ) (last : Other) (us : List Step) (is : commands_run (job_for files c min name p) c.log ≡ recorded (beside n last (commands_run (job_for was c min name p) c.log).course) us) where
+    (n : ℕ) (last : Difference) (us : List Step) (is : commands_run (job_for files c min name p) c.log ≡ recorded (beside n last (commands_run (job_for was c min name p) c.log).course) us) where
   abbrev before : Recorded (List Step)
   before = commands_run (job_for was c min name p) c.log
 
@@ -46,10 +44,3 @@ module _ (was files : List File) (root : List ℕ) (min : ℕ) (c : Citations) (
   beside_meaning =
       ap (λ (r : Recorded (List Step)). run_shown (with_counts r) c.wanted) (sym is)
       ∙ run_meaning files root min c name text p cited named is_text read
-
-  -- Where all counts are the same, only the bibliography is another one.
-  pub beside_bbl : ((place : ℕ) → place < 37 → calls_at us place ≡ calls_at before.seen place) → record (meaning was root min) { bbl = bbl_of us } ≡ meaning files root min
-  beside_bbl calls =
-      ap (λ (m : Meaning). record m { bbl = bbl_of us }) (sym (run_meaning was root min c name text p cited_was named was_text read))
-      ∙ ap (λ (told : List Message). shown_of (bbl_of us) (before.course.log ++ told) c.wanted) (sym (counted_alike (calls_at us) (calls_at before.seen) calls))
-      ∙ beside_meaning

@@ -19,7 +19,9 @@ use Rattle.bt_run.specs.Course.{Recorded}
 use Rattle.bt_run.specs.Meaning.{first_globals, run_begun}
 use Rattle.bt_run.specs.ReadCommand.{Job, found_for, read, with_blank_variables}
 use Rattle.bt_run.specs.Work.{IsStep}
-use Rattle.bt_run.specs.inner.Beside.{AreReadless, FindsOther, FitsBetween, HasKey, KeepEntries, Other, SortsAlike, commands_run, is_for, is_read, keeps_entries, run_before}
+use Rattle.bt_run.specs.inner.Beside.{Difference, FindsChanged, HasKey, SortsAlike, commands_run, is_for, run_before}
+use Rattle.bt_run.specs.inner.SortOrder.{FitsBetween, KeepEntries, keeps_entries}
+use Rattle.bt_run.specs.inner.WalkContext.{AreReadless, is_read}
 use Rattle.bt_run.specs.inner.Cases.{sort_key, unless_stopped}
 use Rattle.bt_run.specs.inner.Course.{IsOrdered}
 use Rattle.bt_run.proofs.BesideKeysLemmas.{goes_before, sorts_as_before, sorts_by_steps}
@@ -83,7 +85,7 @@ module _ (commands : List Command) (k m : ℕ) (c e : Command) (below : k < m) (
       ∙ keep (k + 1 + i) (slice_index_or commands (k + 1 + i) f) (omega arith) (omega (arith, below_next)) (slice_get-get_or commands (k + 1 + i) f (omega (arith, below_next, within)))
 
 module _ (job : Job) (law : DependsOnInput job.program) (n : ℕ) (key : List ℕ) (files : List File) (d : FoundEntry) (front : List Command) (first : AreReadless front)
-    (found : FindsOther n key d (found_for job (0 + length front)) (found_for (record job { files = files }) (0 + length front)) job.program)
+    (found : FindsChanged n key d (found_for job (0 + length front)) (found_for (record job { files = files }) (0 + length front)) job.program)
     (line : ℕ) (back : List Command) (behind : AreReadless back) (are : job.program.commands ≡ front ++ (record { action = Read; line = line }) ∷ back) (log : List Message) (goes : (commands_run job log).course.stopped ≡ false) where
   abbrev begun : Recorded (List Step)
   begun = run_begun (first_globals job.program) log
@@ -137,7 +139,7 @@ module _ (job : Job) (law : DependsOnInput job.program) (n : ℕ) (key : List �
   -- SORT after READ, and the first ITERATE after that, with nothing between that changes entries.
   module _ (k m : ℕ) (c e : Command) (t : Target) (after : length front < k) (below : k < m) (at : slice_get job.program.commands k ≡ Some c) (sorts : c.action ≡ Sort) (at_next : slice_get job.program.commands m ≡ Some e) (iterates : e.action ≡ Iterate t)
       (keep : (i : ℕ) (f : Command) → k < i → i < m → slice_get job.program.commands i ≡ Some f → keeps_entries f.action ≡ true)
-      (o : Other) (i : ℕ) (s : Step) (here : slice_get (commands_run job log).seen i ≡ Some s) (of : s.command ≡ m) (is : IsStep job.program s) (own : is_for key s ≡ true) where
+      (o : Difference) (i : ℕ) (s : Step) (here : slice_get (commands_run job log).seen i ≡ Some s) (of : s.command ≡ m) (is : IsStep job.program s) (own : is_for key s ≡ true) where
     abbrev as' : List Command
     as' = take k job.program.commands
 

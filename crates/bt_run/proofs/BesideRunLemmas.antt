@@ -1,4 +1,4 @@
--- The whole run over files in which READ finds one entry otherwise.
+-- The whole run over files in which READ finds one entry changed.
 use Rattle.std.specs.Prelude.{slice_set, reverse}
 use Rattle.std.specs.List.{range_with_len}
 use Rattle.std.proofs.Common.{◌≡◌, refl, sym, ap, ◌∙◌, subst, ℕ, suc, ◌+◌, Bool, true, false, List, [], ◌∷◌, ◌++◌, length, map, None, arith}
@@ -22,7 +22,8 @@ use Rattle.bt_run.specs.Course.{Recorded, step_kept}
 use Rattle.bt_run.specs.ReadCommand.{Job, found_for, list_order, read, with_blank_variables}
 use Rattle.bt_run.specs.SortCommand.{key_at, sorted}
 use Rattle.bt_run.specs.Work.{own_left}
-use Rattle.bt_run.specs.inner.Beside.{AreBeside, AreReadless, AreSortsAlike, FindsOther, Fits, Other, begins_with, beside, is_read, left}
+use Rattle.bt_run.specs.inner.Beside.{AreBeside, AreSortsAlike, Difference, FindsChanged, Fits, begins_with, beside, left}
+use Rattle.bt_run.specs.inner.WalkContext.{AreReadless, is_read}
 use Rattle.bt_run.specs.inner.Cases.{all_read, command, read_in, site_of, sorted_run, unless_stopped}
 use Rattle.bt_run.specs.inner.Course.{IsOrdered, recorded}
 use Rattle.bt_run.proofs.BesideLemmas.{OnlyAdds, Parts, after, app, commands_add, own_step, parted, stepped_is}
@@ -62,21 +63,21 @@ commands_append job number (c ∷ cs) ds q =
     commands_append job (suc number) cs ds (command app job number c q)
     ∙ ap (λ (k : ℕ). commands_from app job k ds (commands_from app job number (c ∷ cs) q)) same
 
--- a run without entries, which the run beside is like
-record IsBegun (o : Other) (r : Course) : Type 0 where
+-- a run without entries, as the new run is, too
+record IsBegun (o : Difference) (r : Course) : Type 0 where
   entries : r.entries ≡ []
   order : r.order ≡ []
   globals : o.globals ≡ r.globals
   held : o.held ≡ r.held
 
--- Before READ the steps of the run beside are those of the run.
+-- Before READ the new run has the old steps.
 abbrev FrontHolds : Program → List ℕ → (Recorded (List Step) → Recorded (List Step)) → Course → Type 0
 FrontHolds p key run r =
-    (o last : Other) (us : List Step) → IsBegun o r → AreBeside p key o (run (recorded r [])).seen us last →
+    (o last : Difference) (us : List Step) → IsBegun o r → AreBeside p key o (run (recorded r [])).seen us last →
     (us ≡ (run (recorded r [])).seen) × (last.entry ≡ o.entry) × IsBegun last (run (recorded r [])).course
 
-none_front : (p : Program) (key : List ℕ) (r : Course) (o last : Other) (us : List Step) → IsBegun o r → AreBeside p key o [] us last → (us ≡ []) × (last.entry ≡ o.entry) × IsBegun last r
-none_front p key r o last [] h is = (refl, ap (λ (m : Other). m.entry) is, subst (λ (m : Other). IsBegun m r) (sym is) h)
+none_front : (p : Program) (key : List ℕ) (r : Course) (o last : Difference) (us : List Step) → IsBegun o r → AreBeside p key o [] us last → (us ≡ []) × (last.entry ≡ o.entry) × IsBegun last r
+none_front p key r o last [] h is = (refl, ap (λ (m : Difference). m.entry) is, subst (λ (m : Difference). IsBegun m r) (sym is) h)
 none_front p key r o last (u ∷ us) h is = absurd is
 
 front_then : (p : Program) (key : List ℕ) (run run_on : Recorded (List Step) → Recorded (List Step)) (r : Course) → FrontHolds p key run r → FrontHolds p key run_on (run (recorded r [])).course → OnlyAdds run_on (run (recorded r [])).course → FrontHolds p key (λ q. run_on (run q)) r
@@ -97,7 +98,7 @@ module _ (job : Job) (law : DependsOnInput job.program) (key : List ℕ) where
   abbrev then_one : ℕ → ℕ → Target → Course → Course
   then_one number line t r = after job.program law (site_of job number line) t None r
 
-  one_front : (number line : ℕ) (t : Target) (r : Course) (o last : Other) (us : List Step) → IsBegun o r → AreBeside job.program key o (one number line t r ∷ []) us last →
+  one_front : (number line : ℕ) (t : Target) (r : Course) (o last : Difference) (us : List Step) → IsBegun o r → AreBeside job.program key o (one number line t r ∷ []) us last →
       (us ≡ one number line t r ∷ []) × (last.entry ≡ o.entry) × IsBegun last (then_one number line t r)
   one_front number line t r o last [] h is = absurd is
   one_front number line t r o last (u ∷ us) h is =
@@ -160,10 +161,10 @@ module _ (job : Job) (law : DependsOnInput job.program) (key : List ℕ) where
 -- READ
 
 module _ (n : ℕ) (key : List ℕ) (d : FoundEntry) (was is : Resolved) (p : Program) (databases : List (List ℕ)) (r : Course) where
-  fits_read : FindsOther n key d was is p → Fits n key (read_in p databases was r)
+  fits_read : FindsChanged n key d was is p → Fits n key (read_in p databases was r)
   fits_read h = record { keyed = h.keyed; ordered = arranged_range (length (map (with_blank_variables p) was.entries)) }
 
-  reads_other : (o : Other) → o.entry ≡ with_blank_variables p d → o.globals ≡ r.globals → o.held ≡ r.held → FindsOther n key d was is p → read_in p databases is r ≡ beside n o (read_in p databases was r)
+  reads_other : (o : Difference) → o.entry ≡ with_blank_variables p d → o.globals ≡ r.globals → o.held ≡ r.held → FindsChanged n key d was is p → read_in p databases is r ≡ beside n o (read_in p databases was r)
   reads_other o entry globals held h =
       let entries : map (with_blank_variables p) is.entries ≡ slice_set (map (with_blank_variables p) was.entries) n o.entry =
       ap (map (with_blank_variables p)) h.entries ∙ map-set (with_blank_variables p) was.entries n d
@@ -175,7 +176,7 @@ module _ (n : ℕ) (key : List ℕ) (d : FoundEntry) (was is : Resolved) (p : Pr
       λ j. record r { entries = entries j; order = order j; globals = sym globals j; held = sym held j; preamble = h.preamble j; log = r.log ++ all_read databases (h.messages j) }
 
 -- a run that was stopped before it had entries
-begun_fits : (n : ℕ) (key : List ℕ) (o : Other) (r : Course) → IsBegun o r → Fits n key r
+begun_fits : (n : ℕ) (key : List ℕ) (o : Difference) (r : Course) → IsBegun o r → Fits n key r
 begun_fits n key o r h =
     let none : length r.entries ≡ 0 = ap length h.entries in
     let arranged : IsOrdered r = subst (λ (es : List Entry). IsOrdered (record r { entries = es })) (sym h.entries) (subst (λ (ms : List ℕ). IsOrdered (record r { entries = []; order = ms })) (sym h.order) arranged_none) in
@@ -184,7 +185,7 @@ begun_fits n key o r h =
       ordered = arranged;
     }
 
-begun_beside : (n : ℕ) (o : Other) (r : Course) → IsBegun o r → r ≡ beside n o r
+begun_beside : (n : ℕ) (o : Difference) (r : Course) → IsBegun o r → r ≡ beside n o r
 begun_beside n o r h =
     let entries : r.entries ≡ slice_set r.entries n o.entry = h.entries ∙ sym (ap (λ (es : List Entry). slice_set es n o.entry) h.entries) in
     λ j. record r { entries = entries j; globals = sym h.globals j; held = sym h.held j }
@@ -192,14 +193,14 @@ begun_beside n o r h =
 -- The whole run
 
 -- Two runs go on from one course, the second one beside the first after that.
-abbrev pub StartBeside : Program → ℕ → List ℕ → Other → (Recorded (List Step) → Recorded (List Step)) → (Recorded (List Step) → Recorded (List Step)) → Course → Type 0
+abbrev pub StartBeside : Program → ℕ → List ℕ → Difference → (Recorded (List Step) → Recorded (List Step)) → (Recorded (List Step) → Recorded (List Step)) → Course → Type 0
 StartBeside p n key o run other r =
-    (last : Other) (us : List Step) → AreBeside p key o (run (recorded r [])).seen us last →
+    (last : Difference) (us : List Step) → AreBeside p key o (run (recorded r [])).seen us last →
     (other (recorded r []) ≡ recorded (beside n last (run (recorded r [])).course) us)
     × Fits n key (run (recorded r [])).course
 
 module _ (job : Job) (law : DependsOnInput job.program) (n : ℕ) (key : List ℕ) (files : List File) (d : FoundEntry) (front : List Command) (first : AreReadless front)
-    (found : FindsOther n key d (found_for job (0 + length front)) (found_for (record job { files = files }) (0 + length front)) job.program) where
+    (found : FindsChanged n key d (found_for job (0 + length front)) (found_for (record job { files = files }) (0 + length front)) job.program) where
   abbrev other_files : Job
   other_files = record job { files = files }
 
@@ -223,7 +224,7 @@ module _ (job : Job) (law : DependsOnInput job.program) (n : ℕ) (key : List �
   read_seen true q = refl
   read_seen false q = refl
 
-  read_beside : (b : Bool) (q : Recorded (List Step)) (o : Other) → IsBegun o q.course → o.entry ≡ blank_entry →
+  read_beside : (b : Bool) (q : Recorded (List Step)) (o : Difference) → IsBegun o q.course → o.entry ≡ blank_entry →
       (unless_stopped b q (reads other_files q) ≡ recorded (beside n o (unless_stopped b q (reads job q)).course) q.seen)
       × Fits n key (unless_stopped b q (reads job q)).course
   read_beside true q o h entry =
@@ -253,7 +254,7 @@ module _ (job : Job) (law : DependsOnInput job.program) (n : ℕ) (key : List �
   after_read line back j q = commands_append j 0 front (record { action = Read; line = line } ∷ back) q
 
   -- the same in two parts: the steps up to READ, and those after it
-  back_parts : (back : List Command) → AreReadless back → (begun : Course) → begun.entries ≡ [] → begun.order ≡ [] → (last : Other) (us : List Step) →
+  back_parts : (back : List Command) → AreReadless back → (begun : Course) → begun.entries ≡ [] → begun.order ≡ [] → (last : Difference) (us : List Step) →
       AreSortsAlike job n key (suc at) back (started job (recorded begun [])) (begins_with blank_entry begun) us →
       Parts job.program key (begins_with blank_entry begun) (started job (recorded begun [])).seen (commands_from app job (suc at) back (recorded (started job (recorded begun [])).course [])).seen us last →
       commands_from app other_files (suc at) back (started other_files (recorded begun [])) ≡ recorded (beside n last (commands_from app job (suc at) back (recorded (started job (recorded begun [])).course [])).course) us
@@ -265,7 +266,7 @@ module _ (job : Job) (law : DependsOnInput job.program) (n : ℕ) (key : List �
       let steps = ap (recorded (beside n last (commands_from app job (suc at) back (recorded q.course [])).course)) (sym parts.whole) in
       ap (commands_from app other_files (suc at) back) one.0 ∙ two.0 ∙ steps
 
-  back_beside : (back : List Command) → AreReadless back → (begun : Course) → begun.entries ≡ [] → begun.order ≡ [] → (last : Other) (us : List Step) →
+  back_beside : (back : List Command) → AreReadless back → (begun : Course) → begun.entries ≡ [] → begun.order ≡ [] → (last : Difference) (us : List Step) →
       AreBeside job.program key (begins_with blank_entry begun) (commands_from app job (suc at) back (started job (recorded begun []))).seen us last →
       AreSortsAlike job n key (suc at) back (started job (recorded begun [])) (begins_with blank_entry begun) us →
       commands_from app other_files (suc at) back (started other_files (recorded begun [])) ≡ recorded (beside n last (commands_from app job (suc at) back (started job (recorded begun []))).course) us
@@ -278,7 +279,7 @@ module _ (job : Job) (law : DependsOnInput job.program) (n : ℕ) (key : List �
       ∙ ap (λ (x : Recorded (List Step)). recorded (beside n last x.course) us) (sym whole)
 
   -- The whole run, if the SORTs after READ give both runs the same order.
-  pub run_beside : (line : ℕ) (back : List Command) → AreReadless back → (begun : Course) → begun.entries ≡ [] → begun.order ≡ [] → (last : Other) (us : List Step) →
+  pub run_beside : (line : ℕ) (back : List Command) → AreReadless back → (begun : Course) → begun.entries ≡ [] → begun.order ≡ [] → (last : Difference) (us : List Step) →
       AreBeside job.program key (begins_with blank_entry begun) (commands_from app job 0 (front ++ (record { action = Read; line = line }) ∷ back) (recorded begun [])).seen us last →
       AreSortsAlike job n key (suc at) back (started job (recorded begun [])) (begins_with blank_entry begun) us →
       commands_from app other_files 0 (front ++ (record { action = Read; line = line }) ∷ back) (recorded begun []) ≡ recorded (beside n last (commands_from app job 0 (front ++ (record { action = Read; line = line }) ∷ back) (recorded begun [])).course) us

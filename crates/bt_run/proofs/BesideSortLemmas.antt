@@ -18,7 +18,8 @@ use Rattle.bt_run.specs.Commands.{iterated}
 use Rattle.bt_run.specs.Course.{Recorded, stepped}
 use Rattle.bt_run.specs.ReadCommand.{list_order}
 use Rattle.bt_run.specs.SortCommand.{key_at, sorted}
-use Rattle.bt_run.specs.inner.Beside.{AreForEach, KeyFits, Other, SortsAlike, beside}
+use Rattle.bt_run.specs.inner.Beside.{AreForEach, Difference, SortsAlike, beside}
+use Rattle.bt_run.specs.inner.SortOrder.{KeyFits}
 use Rattle.bt_run.specs.inner.Cases.{sort_key, sorted_run, unless_stopped}
 use Rattle.bt_run.specs.inner.Course.{recorded, with_variables}
 use Rattle.bt_run.proofs.BesideLemmas.{after, all_taken, app, below_after, own_step, stepped_is, taken_behind}
@@ -27,7 +28,7 @@ use Rattle.bt_run.proofs.SortingLemmas.{arranged_sorted}
 
 -- SORT
 
-pub sorted_beside : (n : ℕ) (o : Other) (r : Course) → SortsAlike n o r → sorted_run (beside n o r) ≡ beside n o (sorted_run r)
+pub sorted_beside : (n : ℕ) (o : Difference) (r : Course) → SortsAlike n o r → sorted_run (beside n o r) ≡ beside n o (sorted_run r)
 sorted_beside n o r alike =
     let order : sorted (key_at (slice_set r.entries n o.entry)) (list_order (slice_set r.entries n o.entry)) ≡ sorted (key_at r.entries) (list_order r.entries) =
     ap (λ (count : ℕ). sorted (key_at (slice_set r.entries n o.entry)) (range_with_len 0 count)) (length-set r.entries n o.entry) ∙ alike
@@ -35,7 +36,7 @@ sorted_beside n o r alike =
     λ j. record r { entries = slice_set r.entries n o.entry; order = order j; globals = o.globals; held = o.held }
 
 -- The order stays where the new sort key fits between those of the neighbours.
-pub sorts_alike : (n : ℕ) (o : Other) (r : Course) (order : List ℕ) (i : ℕ) → sorted (key_at r.entries) (list_order r.entries) ≡ order → i < length order → slice_index_or order i 0 ≡ n → KeyFits (key_at r.entries) order i (sort_key o.entry) → SortsAlike n o r
+pub sorts_alike : (n : ℕ) (o : Difference) (r : Course) (order : List ℕ) (i : ℕ) → sorted (key_at r.entries) (list_order r.entries) ≡ order → i < length order → slice_index_or order i 0 ≡ n → KeyFits (key_at r.entries) order i (sort_key o.entry) → SortsAlike n o r
 sorts_alike n o r order i is lt at fits =
     let entries = slice_set r.entries n o.entry in
     let below : All (λ m. m < length r.entries) order = subst (λ (ms : List ℕ). All (λ m. m < length r.entries) ms) is (arranged_sorted (key_at r.entries) (length r.entries)).below in
@@ -50,7 +51,7 @@ sorts_alike n o r order i is lt at fits =
     ∙ sym is
 
 -- a sort key that is the old one
-keys_same : (n : ℕ) (o : Other) (r : Course) → sort_key o.entry ≡ key_at r.entries n → (m : ℕ) → key_at (slice_set r.entries n o.entry) m ≡ key_at r.entries m
+keys_same : (n : ℕ) (o : Difference) (r : Course) → sort_key o.entry ≡ key_at r.entries n → (m : ℕ) → key_at (slice_set r.entries n o.entry) m ≡ key_at r.entries m
 keys_same n o r same m = elim (cases_eq m n) [
   | inr other ↦ ap sort_key (get_or-set_other r.entries n m o.entry no_entry other)
   | inl is ↦
@@ -61,7 +62,7 @@ keys_same n o r same m = elim (cases_eq m n) [
       ])
 ]
 
-pub sorts_same : (n : ℕ) (o : Other) (r : Course) → sort_key o.entry ≡ key_at r.entries n → SortsAlike n o r
+pub sorts_same : (n : ℕ) (o : Difference) (r : Course) → sort_key o.entry ≡ key_at r.entries n → SortsAlike n o r
 sorts_same n o r same =
     ap (λ (keys : ℕ → List ℕ). sorted keys (list_order r.entries)) (fun_ext (keys_same n o r same))
 

@@ -14,7 +14,8 @@ use Rattle.bt_run.specs.Commands.{carried_out, commands_from}
 use Rattle.bt_run.specs.Course.{Recorded}
 use Rattle.bt_run.specs.ReadCommand.{Job}
 use Rattle.bt_run.specs.SortCommand.{key_at}
-use Rattle.bt_run.specs.inner.Beside.{AreBeside, AreReadless, AreSortsAlike, Fits, Other, SortsAlike, beside, is_read}
+use Rattle.bt_run.specs.inner.Beside.{AreBeside, AreSortsAlike, Difference, Fits, SortsAlike, beside}
+use Rattle.bt_run.specs.inner.WalkContext.{AreReadless, is_read}
 use Rattle.bt_run.specs.inner.Cases.{command, site_of, sorted_run, unless_stopped}
 use Rattle.bt_run.specs.inner.Course.{recorded}
 use Rattle.bt_run.proofs.BesideLemmas.{all_beside, all_reversed, app, commands_add, joined, none_beside, one_beside, parted}
@@ -34,8 +35,8 @@ module _ (job : Job) (law : DependsOnInput job.program) (n : ℕ) (key : List �
   abbrev other_files : Job
   other_files = record job { files = files }
 
-  -- SORTs after the steps of a run so far, by what is otherwise after them
-  pub sorts_behind : (number : ℕ) (cs : List Command) (q : Recorded (List Step)) (o mid : Other) (us first second : List Step) → us ≡ first ++ second → AreBeside job.program key o q.seen first mid → AreSortsAlike job n key number cs q o us → AreSortsAlike job n key number cs (recorded q.course []) mid second
+  -- SORTs after the steps of a run so far, by where the runs differ after them
+  pub sorts_behind : (number : ℕ) (cs : List Command) (q : Recorded (List Step)) (o mid : Difference) (us first second : List Step) → us ≡ first ++ second → AreBeside job.program key o q.seen first mid → AreSortsAlike job n key number cs q o us → AreSortsAlike job n key number cs (recorded q.course []) mid second
   sorts_behind number cs q o mid us first second whole before alike = λ xs ys line last split goes behind.
       let next = commands_from app job number xs (recorded q.course []) in
       let all : commands_from app job number xs q ≡ recorded next.course (q.seen ++ next.seen) = commands_add job number xs q.course q.seen in
@@ -52,28 +53,28 @@ module _ (job : Job) (law : DependsOnInput job.program) (n : ℕ) (key : List �
       (subst (λ (r : Recorded (List Step)). AreBeside job.program key o r.seen (take (length r.seen) us) last) (sym all) there))
 
   -- SORTs after a command
-  sorts_next : (number : ℕ) (c : Command) (cs : List Command) (q : Recorded (List Step)) (o : Other) (us : List Step) → AreSortsAlike job n key number (c ∷ cs) q o us → AreSortsAlike job n key (suc number) cs (command app job number c q) o us
+  sorts_next : (number : ℕ) (c : Command) (cs : List Command) (q : Recorded (List Step)) (o : Difference) (us : List Step) → AreSortsAlike job n key number (c ∷ cs) q o us → AreSortsAlike job n key (suc number) cs (command app job number c q) o us
   sorts_next number c cs q o us alike = λ xs ys line last split.
       alike (c ∷ xs) ys line last (ap (λ (ds : List Command). c ∷ ds) split)
 
-  sorts_here : (number : ℕ) (c : Command) (cs : List Command) (r : Course) (o : Other) (us : List Step) → AreSortsAlike job n key number (c ∷ cs) (recorded r []) o us → r.stopped ≡ false → c.action ≡ Sort → SortsAlike n o r
+  sorts_here : (number : ℕ) (c : Command) (cs : List Command) (r : Course) (o : Difference) (us : List Step) → AreSortsAlike job n key number (c ∷ cs) (recorded r []) o us → r.stopped ≡ false → c.action ≡ Sort → SortsAlike n o r
   sorts_here number c cs r o us alike goes sorts =
       let is : c ≡ record { action = Sort; line = c.line } = λ j. record { action = sorts j; line = c.line } in
       alike [] cs c.line o (ap (λ (d : Command). d ∷ cs) is) goes refl
 
   -- what holds of a run from a course on
-  abbrev Holds : (Recorded (List Step) → Recorded (List Step)) → (Recorded (List Step) → Recorded (List Step)) → Course → Other → Other → List Step → List Step → Type 0
+  abbrev Holds : (Recorded (List Step) → Recorded (List Step)) → (Recorded (List Step) → Recorded (List Step)) → Course → Difference → Difference → List Step → List Step → Type 0
   Holds run other r o last seen us =
       (other (recorded (beside n o r) seen) ≡ recorded (beside n last (run (recorded r [])).course) (seen ++ us))
       × Fits n key (run (recorded r [])).course
 
-  sort_holds : (number line : ℕ) (r : Course) (o last : Other) (seen us : List Step) → Fits n key r → AreBeside job.program key o [] us last → SortsAlike n o r → Holds (carried_out app job number line Sort) (carried_out app other_files number line Sort) r o last seen us
+  sort_holds : (number line : ℕ) (r : Course) (o last : Difference) (seen us : List Step) → Fits n key r → AreBeside job.program key o [] us last → SortsAlike n o r → Holds (carried_out app job number line Sort) (carried_out app other_files number line Sort) r o last seen us
   sort_holds number line r o last seen us f is alike =
       let now : Fits n key (sorted_run r) = record { keyed = f.keyed; ordered = arranged_sorted (key_at r.entries) (length r.entries) } in
       let rest = none_beside job.program n key (sorted_run r) o last seen us now is in
       (ap (λ (c : Course). recorded c seen) (sorted_beside n o r alike) ∙ rest.0, rest.1)
 
-  action_holds : (number line : ℕ) (a : Action) → is_read a ≡ false → (r : Course) (o last : Other) (seen us : List Step) → Fits n key r → AreBeside job.program key o (carried_out app job number line a (recorded r [])).seen us last → (a ≡ Sort → SortsAlike n o r) → Holds (carried_out app job number line a) (carried_out app other_files number line a) r o last seen us
+  action_holds : (number line : ℕ) (a : Action) → is_read a ≡ false → (r : Course) (o last : Difference) (seen us : List Step) → Fits n key r → AreBeside job.program key o (carried_out app job number line a (recorded r [])).seen us last → (a ≡ Sort → SortsAlike n o r) → Holds (carried_out app job number line a) (carried_out app other_files number line a) r o last seen us
   action_holds number line Entries less r o last seen us f is alike = none_beside job.program n key r o last seen us f is
   action_holds number line (Execute t) less r o last seen us f is alike =
       one_beside job.program law (site_of job number line) t n key r o last seen us f is
@@ -88,13 +89,13 @@ module _ (job : Job) (law : DependsOnInput job.program) (n : ℕ) (key : List �
   action_holds number line Sort less r o last seen us f is alike = sort_holds number line r o last seen us f is (alike refl)
   action_holds number line Strings less r o last seen us f is alike = none_beside job.program n key r o last seen us f is
 
-  command_unless : (b : Bool) (number line : ℕ) (a : Action) → is_read a ≡ false → (r : Course) (o last : Other) (seen us : List Step) → Fits n key r → AreBeside job.program key o (unless_stopped b (recorded r []) (carried_out app job number line a (recorded r []))).seen us last → (b ≡ false → a ≡ Sort → SortsAlike n o r) →
+  command_unless : (b : Bool) (number line : ℕ) (a : Action) → is_read a ≡ false → (r : Course) (o last : Difference) (seen us : List Step) → Fits n key r → AreBeside job.program key o (unless_stopped b (recorded r []) (carried_out app job number line a (recorded r []))).seen us last → (b ≡ false → a ≡ Sort → SortsAlike n o r) →
       Holds (λ q. unless_stopped b q (carried_out app job number line a q)) (λ q. unless_stopped b q (carried_out app other_files number line a q)) r o last seen us
   command_unless true number line a less r o last seen us f is alike = none_beside job.program n key r o last seen us f is
   command_unless false number line a less r o last seen us f is alike = action_holds number line a less r o last seen us f is (alike refl)
 
-  -- Commands without READ, whose SORTs give the run beside the same order.
-  pub commands_beside : (number : ℕ) (cs : List Command) → AreReadless cs → (r : Course) (o last : Other) (seen us : List Step) → Fits n key r → AreBeside job.program key o (commands_from app job number cs (recorded r [])).seen us last → AreSortsAlike job n key number cs (recorded r []) o us →
+  -- Commands without READ, whose SORTs give both runs the same order.
+  pub commands_beside : (number : ℕ) (cs : List Command) → AreReadless cs → (r : Course) (o last : Difference) (seen us : List Step) → Fits n key r → AreBeside job.program key o (commands_from app job number cs (recorded r [])).seen us last → AreSortsAlike job n key number cs (recorded r []) o us →
       Holds (commands_from app job number cs) (commands_from app other_files number cs) r o last seen us
   commands_beside number [] less r o last seen us f is alike = none_beside job.program n key r o last seen us f is
   commands_beside number (c ∷ cs) less r o last seen us f is alike =

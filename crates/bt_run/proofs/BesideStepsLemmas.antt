@@ -11,7 +11,7 @@ use Rattle.bt_run.specs.declared.course.Step.{Step}
 use Rattle.bt_run.specs.declared.index.Index.{Index}
 use Rattle.bt_run.specs.declared.reuse.Reuse.{Reuse}
 use Rattle.bt_run.specs.Work.{IsStep, total_cost, work_under}
-use Rattle.bt_run.specs.inner.Beside.{AreBeside, AreUpTo, IsCountedUpTo, IsGivenAlike, IsOther, Other, is_for, left}
+use Rattle.bt_run.specs.inner.Beside.{AreBeside, AreUpTo, Difference, IsCountedUpTo, IsGivenAlike, IsNewStep, is_for, left}
 use Rattle.bt_run.specs.Counts.{calls_at}
 use Rattle.bt_run.specs.inner.Calls.{AreCalls, AreExchanged}
 use Rattle.bt_run.specs.inner.Index.{IsIndex}
@@ -30,28 +30,28 @@ pub step_at : (p : Program) (ss : List Step) (k : ℕ) (s : Step) → All (IsSte
 step_at p ss k s all here = subst (IsStep p) (get_or_from_slice_get ss k s s here) (all k s (slice_get_within ss k s here))
 
 -- one step more
-pub beside_more : (p : Program) (key : List ℕ) (ss us : List Step) (o mid : Other) (s u : Step) → AreBeside p key o ss us mid → IsOther (is_for key s) p mid s u → AreBeside p key o (ss ++ s ∷ []) (us ++ u ∷ []) (left (is_for key s) mid u)
+pub beside_more : (p : Program) (key : List ℕ) (ss us : List Step) (o mid : Difference) (s u : Step) → AreBeside p key o ss us mid → IsNewStep (is_for key s) p mid s u → AreBeside p key o (ss ++ s ∷ []) (us ++ u ∷ []) (left (is_for key s) mid u)
 beside_more p key ss us o mid s u h g =
     joined p key ss (s ∷ []) us (u ∷ []) o mid (left (is_for key s) mid u) h (g, refl)
 
 -- After a step that leaves what the old one left, the next step is given what it was given before.
-pub alike_next : (ss : List Step) (k : ℕ) (own : Bool) (now : Other) (s t u : Step) → AreInTurn ss → slice_get ss k ≡ Some s → slice_get ss (k + 1) ≡ Some t → u.outcome.globals ≡ s.outcome.globals → u.outcome.held ≡ s.outcome.held → IsGivenAlike (left own now u) t
+pub alike_next : (ss : List Step) (k : ℕ) (own : Bool) (now : Difference) (s t u : Step) → AreInTurn ss → slice_get ss k ≡ Some s → slice_get ss (k + 1) ≡ Some t → u.outcome.globals ≡ s.outcome.globals → u.outcome.held ≡ s.outcome.held → IsGivenAlike (left own now u) t
 alike_next ss k own now s t u turn at next globals held =
     let after = turn k s t at next in
     record { globals = globals ∙ sym after.globals; held = held ∙ sym after.held }
 
-module _ (p : Program) (key : List ℕ) (first : Other) (ss : List Step) where
+module _ (p : Program) (key : List ℕ) (first : Difference) (ss : List Step) where
   -- no step yet
   pub none_upto : AreUpTo p key first ss ss 0 first
   none_upto = record { count = refl; beside = refl; rest = refl }
 
   -- all steps
-  pub all_upto : (us : List Step) (k : ℕ) (now : Other) → length ss ≤ k → AreUpTo p key first ss us k now → AreBeside p key first ss us now
+  pub all_upto : (us : List Step) (k : ℕ) (now : Difference) → length ss ≤ k → AreUpTo p key first ss us k now → AreBeside p key first ss us now
   all_upto us k now past h =
       subst (λ (vs : List Step). AreBeside p key first vs us now) (take_all k ss past)
       (subst (λ (vs : List Step). AreBeside p key first (take k ss) vs now) (take_all k us (omega (arith, past, h.count))) h.beside)
 
-  more : (us vs : List Step) (k : ℕ) (now : Other) (s u : Step) → slice_get ss k ≡ Some s → AreUpTo p key first ss us k now → IsOther (is_for key s) p now s u → length vs ≡ length ss → take (k + 1) vs ≡ take k us ++ u ∷ [] → drop (k + 1) vs ≡ drop (k + 1) ss → AreUpTo p key first ss vs (k + 1) (left (is_for key s) now u)
+  more : (us vs : List Step) (k : ℕ) (now : Difference) (s u : Step) → slice_get ss k ≡ Some s → AreUpTo p key first ss us k now → IsNewStep (is_for key s) p now s u → length vs ≡ length ss → take (k + 1) vs ≡ take k us ++ u ∷ [] → drop (k + 1) vs ≡ drop (k + 1) ss → AreUpTo p key first ss vs (k + 1) (left (is_for key s) now u)
   more us vs k now s u at h other counted taken dropped =
       let olds : take (k + 1) ss ≡ take k ss ++ s ∷ [] =
       take_more ss k s (slice_get_within ss k s at) ∙ ap (λ (t : Step). take k ss ++ t ∷ []) (get_or_from_slice_get ss k s s at)
@@ -65,14 +65,14 @@ module _ (p : Program) (key : List ℕ) (first : Other) (ss : List Step) where
       }
 
   -- a step that is put in the place of an old one
-  pub put_upto : (us : List Step) (k : ℕ) (now : Other) (s u : Step) → slice_get ss k ≡ Some s → AreUpTo p key first ss us k now → IsOther (is_for key s) p now s u → AreUpTo p key first ss (slice_set us k u) (k + 1) (left (is_for key s) now u)
+  pub put_upto : (us : List Step) (k : ℕ) (now : Difference) (s u : Step) → slice_get ss k ≡ Some s → AreUpTo p key first ss us k now → IsNewStep (is_for key s) p now s u → AreUpTo p key first ss (slice_set us k u) (k + 1) (left (is_for key s) now u)
   put_upto us k now s u at h other =
       let within : k < length us = omega (arith, slice_get_within ss k s at, h.count) in
       more us (slice_set us k u) k now s u at h other (length-set us k u ∙ h.count) (take_more_set us k u within)
       (drop-set-lt (k + 1) us k u (omega arith) ∙ drop_more_same us ss k h.rest)
 
   -- a step that is given what it was given before
-  pub same_upto : (us : List Step) (k : ℕ) (now : Other) (s : Step) → slice_get ss k ≡ Some s → IsStep p s → is_for key s ≡ false → IsGivenAlike now s → AreUpTo p key first ss us k now → AreUpTo p key first ss us (k + 1) (left false now s)
+  pub same_upto : (us : List Step) (k : ℕ) (now : Difference) (s : Step) → slice_get ss k ≡ Some s → IsStep p s → is_for key s ≡ false → IsGivenAlike now s → AreUpTo p key first ss us k now → AreUpTo p key first ss us (k + 1) (left false now s)
   same_upto us k now s at is other alike h =
       let within : k < length us = omega (arith, slice_get_within ss k s at, h.count) in
       let here : k + 0 ≡ k = omega arith in
@@ -88,7 +88,7 @@ module _ (p : Program) (key : List ℕ) (first : Other) (ss : List Step) where
       (more us us k now s s at h own.0 h.count taken (drop_more_same us ss k h.rest))
 
   -- Many steps in turn that are for other entries or none: they are given what they were given before, if the first is.
-  pub stretch_upto : (us : List Step) (k c : ℕ) (now : Other) (t : Step) → All (IsStep p) ss → AreInTurn ss → ((i : ℕ) (s : Step) → k ≤ i → i ≤ k + c → slice_get ss i ≡ Some s → is_for key s ≡ false) → ((s : Step) → slice_get ss k ≡ Some s → IsGivenAlike now s) → slice_get ss (k + c) ≡ Some t → AreUpTo p key first ss us k now → AreUpTo p key first ss us (k + c + 1) (left false now t)
+  pub stretch_upto : (us : List Step) (k c : ℕ) (now : Difference) (t : Step) → All (IsStep p) ss → AreInTurn ss → ((i : ℕ) (s : Step) → k ≤ i → i ≤ k + c → slice_get ss i ≡ Some s → is_for key s ≡ false) → ((s : Step) → slice_get ss k ≡ Some s → IsGivenAlike now s) → slice_get ss (k + c) ≡ Some t → AreUpTo p key first ss us k now → AreUpTo p key first ss us (k + c + 1) (left false now t)
   stretch_upto us k zero now t all turn others alike at h =
       let here : k + 0 ≡ k = omega arith in
       let at_k : slice_get ss k ≡ Some t = sym (ap (slice_get ss) here) ∙ at in
@@ -104,7 +104,7 @@ module _ (p : Program) (key : List ℕ) (first : Other) (ss : List Step) where
       subst (λ (i : ℕ). AreUpTo p key first ss us (i + 1) (left false now t)) (sym next) own
 
 -- A later step changes nothing of what is beside up to a number.
-pub early_put : (p : Program) (key : List ℕ) (o now : Other) (ss us : List Step) (j k : ℕ) (u : Step) → j ≤ k → AreBeside p key o (take j ss) (take j us) now → AreBeside p key o (take j ss) (take j (slice_set us k u)) now
+pub early_put : (p : Program) (key : List ℕ) (o now : Difference) (ss us : List Step) (j k : ℕ) (u : Step) → j ≤ k → AreBeside p key o (take j ss) (take j us) now → AreBeside p key o (take j ss) (take j (slice_set us k u)) now
 early_put p key o now ss us j k u le is =
     subst (λ (vs : List Step). AreBeside p key o (take j ss) vs now) (sym (take-set-le j us k u le)) is
 

@@ -1,4 +1,4 @@
--- All commands of a style over files in which READ finds one entry otherwise.
+-- All commands of a style over files in which READ finds one entry changed.
 use Rattle.std.specs.Prelude.{slice_get}
 use Rattle.std.proofs.Common.{◌≡◌, refl, sym, ap, ◌∙◌, subst, ℕ, suc, ◌+◌, ◌<◌, ◌≤◌, false, List, [], ◌∷◌, ◌++◌, length, take, All, Some, arith}
 use Rattle.std.proofs.Math.Seq.{take-append_seam}
@@ -17,14 +17,15 @@ use Rattle.bt_run.specs.Commands.{commands_from}
 use Rattle.bt_run.specs.Course.{Recorded}
 use Rattle.bt_run.specs.Meaning.{first_globals, run_begun}
 use Rattle.bt_run.specs.ReadCommand.{Job, found_for, read, with_blank_variables}
-use Rattle.bt_run.specs.inner.Beside.{AreBefore, AreBeside, AreReadless, AreSortsAlike, FindsOther, Other, SortsAlike, SortsAt, begins_with, beside, commands_run, is_for, left, run_before}
+use Rattle.bt_run.specs.inner.Beside.{AreBefore, AreBeside, AreSortsAlike, Difference, FindsChanged, SortsAlike, SortsAt, beside, commands_run, first_of, is_for, left, run_before}
+use Rattle.bt_run.specs.inner.WalkContext.{AreReadless}
 use Rattle.bt_run.specs.inner.Course.{recorded}
 use Rattle.bt_run.proofs.BesideLemmas.{app, commands_add}
 use Rattle.bt_run.proofs.BesideRunLemmas.{after_read, commands_append, run_beside, started}
 use Rattle.bt_run.proofs.CommandStepsLemmas.{commands_all, meet_at, unless_all}
 
--- steps beside others determine what is otherwise at their end
-last_same : (p : Program) (key : List ℕ) (o a b : Other) (ss us : List Step) → AreBeside p key o ss us a → AreBeside p key o ss us b → a ≡ b
+-- steps beside others determine where the runs differ at their end
+last_same : (p : Program) (key : List ℕ) (o a b : Difference) (ss us : List Step) → AreBeside p key o ss us a → AreBeside p key o ss us b → a ≡ b
 last_same p key o a b [] [] h g = h ∙ sym g
 last_same p key o a b [] (u ∷ us) h g = absurd h
 last_same p key o a b (s ∷ ss) [] h g = absurd h
@@ -35,7 +36,7 @@ get_seam [] y ys = refl
 get_seam (x ∷ xs) y ys = get_seam xs y ys
 
 module _ (job : Job) (law : DependsOnInput job.program) (n : ℕ) (key : List ℕ) (files : List File) (d : FoundEntry) (front : List Command) (first : AreReadless front)
-    (found : FindsOther n key d (found_for job (0 + length front)) (found_for (record job { files = files }) (0 + length front)) job.program)
+    (found : FindsChanged n key d (found_for job (0 + length front)) (found_for (record job { files = files }) (0 + length front)) job.program)
     (line : ℕ) (back : List Command) (behind : AreReadless back) (are : job.program.commands ≡ front ++ (record { action = Read; line = line }) ∷ back) (log : List Message) where
   abbrev begun : Recorded (List Step)
   begun = run_begun (first_globals job.program) log
@@ -43,9 +44,8 @@ module _ (job : Job) (law : DependsOnInput job.program) (n : ℕ) (key : List �
   abbrev reading : Command
   reading = record { action = Read; line = line }
 
-  -- what the run beside has otherwise from its beginning
-  abbrev pub at_first : Other
-  at_first = begins_with (with_blank_variables job.program d) begun.course
+  abbrev pub at_first : Difference
+  at_first = first_of job.program (with_blank_variables job.program d)
 
   abbrev steps : List Step
   steps = (commands_run job log).seen
@@ -116,7 +116,7 @@ module _ (job : Job) (law : DependsOnInput job.program) (n : ℕ) (key : List �
         let meet = meet_at (up_to xs).seen others.seen number j all_before all_behind both.within both.before both.behind in
         ap (take j) whole ∙ meet.0
 
-    sorts : (us : List Step) (mid : Other) → SortsAt job log n key number at_first us → (up_to xs).course.stopped ≡ false → AreBeside job.program key at_first (up_to xs).seen (take (length (up_to xs).seen) us) mid → SortsAlike n mid (up_to xs).course
+    sorts : (us : List Step) (mid : Difference) → SortsAt job log n key number at_first us → (up_to xs).course.stopped ≡ false → AreBeside job.program key at_first (up_to xs).seen (take (length (up_to xs).seen) us) mid → SortsAlike n mid (up_to xs).course
     sorts us mid at goes is =
         let olds : take at.steps steps ≡ (up_to xs).seen = before at.steps at.before in
         let count : at.steps ≡ length (up_to xs).seen = sym (length-take-le at.steps steps at.before.within) ∙ ap length olds in
@@ -124,10 +124,10 @@ module _ (job : Job) (law : DependsOnInput job.program) (n : ℕ) (key : List �
         let there = subst (λ (ss : List Step). AreBeside job.program key at_first ss (take (length (up_to xs).seen) us) at.now) olds (subst (λ (vs : List Step). AreBeside job.program key at_first (take at.steps steps) vs at.now) news at.beside) in
         let same : at.now ≡ mid = last_same job.program key at_first at.now mid (up_to xs).seen (take (length (up_to xs).seen) us) there is in
         let alike : SortsAlike n at.now (up_to xs).course = subst (SortsAlike n at.now) run_there (at.alike (ap (λ (r : Course). r.stopped) run_there ∙ goes)) in
-        subst (λ (o : Other). SortsAlike n o (up_to xs).course) same alike
+        subst (λ (o : Difference). SortsAlike n o (up_to xs).course) same alike
 
   -- The run of all commands is beside the old one, if each SORT after READ gives both the same order.
-  pub commands_run_beside : (last : Other) (us : List Step) → AreBeside job.program key at_first steps us last →
+  pub commands_run_beside : (last : Difference) (us : List Step) → AreBeside job.program key at_first steps us last →
       ((number : ℕ) (c : Command) → length front < number → slice_get job.program.commands number ≡ Some c → c.action ≡ Sort → SortsAt job log n key number at_first us) →
       commands_run (record job { files = files }) log ≡ recorded (beside n last (commands_run job log).course) us
   commands_run_beside last us is sort =

@@ -115,7 +115,7 @@ pub pieces_stay : (q : Question) (number : ℕ) (items : List PlacedPiece) (e : 
     (old : List PlacedPiece) → slice_get q.databases number ≡ Some old → AreKeptPieces old items kept
 pieces_stay q number items e kept of keeps old here = subst (λ (ps : List PlacedPiece). AreKeptPieces ps items kept) (same_some of.old old (sym of.here ∙ here)) (keeps of.old items of.edit)
 
-pub texts_edited : (q : Question) (texts others : List (List ℕ)) (e : DatabaseEdit) → q.databases ≡ map pieces_of texts → others ≡ slice_set texts e.number e.text → KeepsPieces q e → AreEdited q (Some (record { number = e.number; kept = e.kept })) (map pieces_of others)
+pub texts_edited : (q : Question) (texts others : List (List ℕ)) (e : DatabaseEdit) → q.databases ≡ map pieces_of texts → others ≡ slice_set texts e.number e.text → KeepsPieces q e → AreEdited q (record { number = e.number; kept = e.kept }) (map pieces_of others)
 texts_edited q texts others e read makes keeps =
     one_edited q e.number e.items e.kept (map pieces_of others)
     (ap (map pieces_of) makes ∙ map-set pieces_of texts e.number e.text ∙ (λ j. slice_set (sym read j) e.number (sym e.read j)))

@@ -1,4 +1,4 @@
--- What READ finds otherwise, by the entries of the old run.
+-- What READ finds changed, by the entries of the old run.
 use Rattle.std.specs.Prelude.{bytes_eq, slice_index_or, slice_set}
 use Rattle.std.proofs.Common.{◌≡◌, ◌≢◌, refl, sym, ap, ◌∙◌, subst, inl, inr, ℕ, zero, suc, ◌<◌, List, [], ◌∷◌, length, map, arith}
 use Rattle.std.proofs.lemmas.Bool.{cases_eq}
@@ -27,7 +27,7 @@ found_own [] n d lt = absurd (omega (arith, lt))
 found_own (e ∷ es) zero d lt = refl
 found_own (e ∷ es) (suc n) d lt = found_own es n d (omega (arith, lt))
 
--- The entries after the run beside are those that READ finds now, if those before were what it found before.
+-- The new run's entries are those that READ finds now, if those before were what it found before.
 pub found_beside : (n : ℕ) (d : FoundEntry) (was is : Resolved) (p : Program) (entries : List Entry) (last : Entry) → is.entries ≡ slice_set was.entries n d → AreFound was entries → n < length was.entries → n < length entries → fixed last ≡ fixed (with_blank_variables p d) → AreFound is (slice_set entries n last)
 found_beside n d was is p entries last finds found within lt same = λ m.
     let now : found_at (slice_set was.entries n d) m ≡ found_at is.entries m = ap (λ (es : List FoundEntry). found_at es m) (sym finds) in

@@ -1,26 +1,23 @@
--- Commands without READ keep all of an entry but its variables, and a run goes on if no step stops it.
+-- Commands without READ keep all of an entry but its variables.
 use Rattle.std.specs.Prelude.{bytes_eq, reverse, slice_index_or}
-use Rattle.std.proofs.Common.{◌≡◌, refl, sym, ap, ◌∙◌, subst, ℕ, suc, ◌<◌, Bool, true, false, List, [], ◌∷◌, ◌++◌, length, All, Option, Some, None, arith}
-use Rattle.std.proofs.Math.Seq.{get_or-append_seam}
-use Rattle.std.proofs.lemmas.List.{length-append}
+use Rattle.std.proofs.Common.{◌≡◌, refl, sym, ap, ◌∙◌, subst, ℕ, suc, ◌<◌, Bool, true, false, List, [], ◌∷◌, length, All, Option, Some, None, arith}
 use Rattle.std.proofs.lemmas.List.Elements.{All-head, All-tail}
 use Rattle.bt_style.specs.declared.style.Action.{Action}
 use Rattle.bt_style.specs.declared.style.Action.TheVariants.{Entry as Entries, Execute, Function, Integers, Iterate, Macro, Read, Reverse, Sort, Strings}
 use Rattle.bt_style.specs.declared.style.Command.{Command}
 use Rattle.bt_style.specs.declared.style.Target.{Target}
-use Rattle.bt_style.specs.Program.{Program}
 use Rattle.bt_actions.specs.declared.entry.Entry.{Entry}
 use Rattle.bt_actions.specs.World.{no_entry}
 use Rattle.bt_machine.specs.OwnEntry.{DependsOnInput, IsPlace}
-use Rattle.bt_machine.specs.Step.{own, step}
 use Rattle.bt_run.specs.declared.course.CommandPlace.{CommandPlace}
 use Rattle.bt_run.specs.declared.course.Course.{Course}
 use Rattle.bt_run.specs.declared.course.Step.{Step}
 use Rattle.bt_run.specs.Commands.{carried_out, commands_from, iterated}
-use Rattle.bt_run.specs.Course.{Recorded, course_world, input_at, step_kept, stepped}
+use Rattle.bt_run.specs.Course.{Recorded, course_world, stepped}
 use Rattle.bt_run.specs.ReadCommand.{Job}
 use Rattle.bt_run.specs.SortCommand.{key_at}
-use Rattle.bt_run.specs.inner.Beside.{AreReadless, HasKey, is_read}
+use Rattle.bt_run.specs.inner.Beside.{HasKey}
+use Rattle.bt_run.specs.inner.WalkContext.{AreReadless, is_read}
 use Rattle.bt_run.specs.inner.Cases.{command, site_of, unless_stopped}
 use Rattle.bt_run.specs.inner.Course.{IsOrdered}
 use Rattle.bt_run.specs.inner.Earlier.{fixed_at}
@@ -101,46 +98,3 @@ module _ (job : Job) (law : DependsOnInput job.program) where
       let one = unless_keeps q.course.stopped q next ordered (action_keeps number c.line c.action (All-head readless c cs less) q ordered) in
       let on = command app job number c q in
       keeps_on q.course on.course (commands_from app job (suc number) cs on).course one (commands_keep_keys (suc number) cs (All-tail readless c cs less) on one.ordered)
-
--- Whether a run goes on
-
-abbrev pub GoesOn : Recorded (List Step) → Type 0
-GoesOn q = All (λ (s : Step). s.outcome.stop ≡ false) q.seen → q.course.stopped ≡ false
-
-all_last : (P : Step → Type 0) (ss : List Step) (s : Step) → All P (ss ++ s ∷ []) → P s
-all_last P ss s h =
-    subst P (get_or-append_seam ss s [] s) (h (length ss) s (omega (arith, length-append ss (s ∷ []))))
-
-step_goes : (p : Program) (site : CommandPlace) (t : Target) (x : Option ℕ) (q : Recorded (List Step)) → GoesOn (stepped app p site t x q)
-step_goes p site t x q all =
-    let w = course_world q.course in
-    all_last (λ (s : Step). s.outcome.stop ≡ false) q.seen (step_kept site.command (input_at t x w) (own x w (step p x t w))) all
-
-unless_goes : (b : Bool) (q next : Recorded (List Step)) → GoesOn q → GoesOn next → GoesOn (unless_stopped b q next)
-unless_goes true q next h g = h
-unless_goes false q next h g = g
-
-iterated_goes : (p : Program) (site : CommandPlace) (t : Target) (ms : List ℕ) (q : Recorded (List Step)) → GoesOn q → GoesOn (iterated app p site t ms q)
-iterated_goes p site t [] q h = h
-iterated_goes p site t (m ∷ ms) q h =
-    let next = stepped app p site t (Some m) q in
-    iterated_goes p site t ms (unless_stopped q.course.stopped q next) (unless_goes q.course.stopped q next h (step_goes p site t (Some m) q))
-
-action_goes : (job : Job) (number line : ℕ) (a : Action) (q : Recorded (List Step)) → GoesOn q → GoesOn (carried_out app job number line a q)
-action_goes job number line Entries q h = h
-action_goes job number line (Execute t) q h = step_goes job.program (site_of job number line) t None q
-action_goes job number line (Function n) q h = h
-action_goes job number line Integers q h = h
-action_goes job number line (Iterate t) q h = iterated_goes job.program (site_of job number line) t q.course.order q h
-action_goes job number line (Macro n) q h = h
-action_goes job number line Read q h = h
-action_goes job number line (Reverse t) q h = iterated_goes job.program (site_of job number line) t (reverse q.course.order) q h
-action_goes job number line Sort q h = h
-action_goes job number line Strings q h = h
-
--- A run in which no step stops it goes on to its end.
-pub commands_go : (job : Job) (number : ℕ) (cs : List Command) (q : Recorded (List Step)) → GoesOn q → GoesOn (commands_from app job number cs q)
-commands_go job number [] q h = h
-commands_go job number (c ∷ cs) q h =
-    let next = carried_out app job number c.line c.action q in
-    commands_go job (suc number) cs (command app job number c q) (unless_goes q.course.stopped q next h (action_goes job number c.line c.action q h))

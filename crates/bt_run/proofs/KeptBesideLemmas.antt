@@ -14,7 +14,7 @@ use Rattle.bt_run.specs.declared.course.Step.{Step}
 use Rattle.bt_run.specs.declared.mark.Mark.{Mark}
 use Rattle.bt_run.specs.Course.{key_in}
 use Rattle.bt_run.specs.Work.{IsStep, same_key}
-use Rattle.bt_run.specs.inner.Beside.{AreBeside, HasKey, IsOther, Other, is_for, left}
+use Rattle.bt_run.specs.inner.Beside.{AreBeside, Difference, HasKey, IsNewStep, is_for, left}
 use Rattle.bt_run.specs.inner.Earlier.{fixed, fixed_at}
 use Rattle.bt_run.specs.inner.Marks.{AreMarked, IsMark, step_tag, tag_of}
 use Rattle.bt_run.specs.inner.Turn.{AreInTurn, IsAfter}
@@ -46,17 +46,17 @@ key_is (Some k) key h = ap Some ((bytes_eq-Decides k key).0 h)
 
 module _ (p : Program) (key : List ℕ) where
   -- the entry stays the same, but for its variables
-  fixed_left : (own : Bool) (o : Other) (u : Step) → fixed (left own o u).entry ≡ fixed o.entry
+  fixed_left : (own : Bool) (o : Difference) (u : Step) → fixed (left own o u).entry ≡ fixed o.entry
   fixed_left true o u = fixed_with u.outcome.variables o.entry
   fixed_left false o u = refl
 
-  pub last_fixed : (ss us : List Step) (o last : Other) → AreBeside p key o ss us last → fixed last.entry ≡ fixed o.entry
-  last_fixed [] [] o last is = ap (λ (m : Other). fixed m.entry) is
+  pub last_fixed : (ss us : List Step) (o last : Difference) → AreBeside p key o ss us last → fixed last.entry ≡ fixed o.entry
+  last_fixed [] [] o last is = ap (λ (m : Difference). fixed m.entry) is
   last_fixed [] (u ∷ us) o last is = absurd is
   last_fixed (s ∷ ss) [] o last is = absurd is
   last_fixed (s ∷ ss) (u ∷ us) o last is = last_fixed ss us (left (is_for key s) o u) last is.1 ∙ fixed_left (is_for key s) o u
 
-  pub beside_length : (ss us : List Step) (o last : Other) → AreBeside p key o ss us last → length us ≡ length ss
+  pub beside_length : (ss us : List Step) (o last : Difference) → AreBeside p key o ss us last → length us ≡ length ss
   beside_length [] [] o last is = refl
   beside_length [] (u ∷ us) o last is = absurd is
   beside_length (s ∷ ss) [] o last is = absurd is
@@ -64,9 +64,9 @@ module _ (p : Program) (key : List ℕ) where
 
   -- a step beside one, for an entry that is this one but for its variables
   abbrev IsPair : Entry → Step → Step → Type 0
-  IsPair e s u = (o : Other) × (fixed o.entry ≡ fixed e) × IsOther (is_for key s) p o s u
+  IsPair e s u = (o : Difference) × (fixed o.entry ≡ fixed e) × IsNewStep (is_for key s) p o s u
 
-  pair_at : (ss us : List Step) (o last : Other) → AreBeside p key o ss us last → (k : ℕ) (s u : Step) → slice_get ss k ≡ Some s → slice_get us k ≡ Some u → IsPair o.entry s u
+  pair_at : (ss us : List Step) (o last : Difference) → AreBeside p key o ss us last → (k : ℕ) (s u : Step) → slice_get ss k ≡ Some s → slice_get us k ≡ Some u → IsPair o.entry s u
   pair_at [] us o last is k s u here there = absurd (omega (arith, slice_get_within [] k s here))
   pair_at (r ∷ ss) [] o last is k s u here there = absurd is
   pair_at (r ∷ ss) (v ∷ us) o last is zero s u here there =
@@ -77,13 +77,13 @@ module _ (p : Program) (key : List ℕ) where
       (pair.0, pair.1 ∙ fixed_left (is_for key r) o v, pair.2)
 
   -- each is given what the one before it left
-  after_first : (ss us : List Step) (o last : Other) (u : Step) (own : Bool) → AreBeside p key (left own o u) ss us last → (v : Step) → slice_get us 0 ≡ Some v → IsAfter u v
+  after_first : (ss us : List Step) (o last : Difference) (u : Step) (own : Bool) → AreBeside p key (left own o u) ss us last → (v : Step) → slice_get us 0 ≡ Some v → IsAfter u v
   after_first ss [] o last u own is v next = absurd (omega (arith, slice_get_within [] 0 v next))
   after_first [] (w ∷ us) o last u own is v next = absurd is
   after_first (s ∷ ss) (w ∷ us) o last u own is v next =
       subst (IsAfter u) (some_same w v next) (record { globals = ap (λ (i : Input). i.globals) is.0.input; held = ap (λ (i : Input). i.held) is.0.input })
 
-  pub in_turn_beside : (ss us : List Step) (o last : Other) → AreBeside p key o ss us last → AreInTurn us
+  pub in_turn_beside : (ss us : List Step) (o last : Difference) → AreBeside p key o ss us last → AreInTurn us
   in_turn_beside ss [] o last is n u v at next = absurd (omega (arith, slice_get_within [] n u at))
   in_turn_beside [] (w ∷ us) o last is n u v at next = absurd is
   in_turn_beside (s ∷ ss) (w ∷ us) o last is zero u v at next =
@@ -93,7 +93,7 @@ module _ (p : Program) (key : List ℕ) where
       in_turn_beside ss us (left (is_for key s) o w) last is.1 n u v at (sym (ap (slice_get (w ∷ us)) one_on) ∙ next)
 
   -- a step beside another has its tag
-  tag_beside : (own : Bool) (o : Other) (s u : Step) → is_for key s ≡ own → IsStep p s → o.entry.key ≡ key → IsOther own p o s u → step_tag u ≡ step_tag s
+  tag_beside : (own : Bool) (o : Difference) (s u : Step) → is_for key s ≡ own → IsStep p s → o.entry.key ≡ key → IsNewStep own p o s u → step_tag u ≡ step_tag s
   tag_beside true o s u for is_step named is =
       let now : key_in u.input ≡ Some o.entry.key = ap key_in is.input in
       let was : key_in s.input ≡ Some key = sym (ap (λ (t : Step). t.key) is_step.is) ∙ key_is s.key key for in
@@ -102,7 +102,7 @@ module _ (p : Program) (key : List ℕ) where
       let now : key_in u.input ≡ key_in s.input = ap key_in is.input in
       λ j. tag_of (is.command j) (now j)
 
-  module _ (ss us : List Step) (o last : Other) (beside : AreBeside p key o ss us last) where
+  module _ (ss us : List Step) (o last : Difference) (beside : AreBeside p key o ss us last) where
     -- the step that another is beside
     abbrev Old : ℕ → Step → Type 0
     Old k u = (s : Step) × (slice_get ss k ≡ Some s) × IsPair o.entry s u
@@ -120,18 +120,18 @@ module _ (p : Program) (key : List ℕ) where
         old.2.2.is
 
     -- entries stand where they stood, with the last one in its place
-    placed_own : (own : Bool) (entries : List Entry) (n : ℕ) (d : Other) (s u : Step) → own ≡ true → n < length entries → fixed d.entry ≡ fixed o.entry → IsOther own p d s u → option_map fixed u.input.entry ≡ Some (fixed_at (slice_set entries n last.entry) n)
+    placed_own : (own : Bool) (entries : List Entry) (n : ℕ) (d : Difference) (s u : Step) → own ≡ true → n < length entries → fixed d.entry ≡ fixed o.entry → IsNewStep own p d s u → option_map fixed u.input.entry ≡ Some (fixed_at (slice_set entries n last.entry) n)
     placed_own true entries n d s u own lt same is =
         ap (λ (i : Input). option_map fixed i.entry) is.input
         ∙ ap Some (same ∙ sym (last_fixed ss us o last beside) ∙ ap fixed (sym (get_or-set_same entries n last.entry no_entry lt)))
     placed_own false entries n d s u own lt same is = absurd cc
 
-    placed_other : (own : Bool) (entries : List Entry) (n m : ℕ) (d : Other) (s u : Step) → own ≡ false → m ≢ n → option_map fixed s.input.entry ≡ Some (fixed_at entries m) → IsOther own p d s u → option_map fixed u.input.entry ≡ Some (fixed_at (slice_set entries n last.entry) m)
+    placed_other : (own : Bool) (entries : List Entry) (n m : ℕ) (d : Difference) (s u : Step) → own ≡ false → m ≢ n → option_map fixed s.input.entry ≡ Some (fixed_at entries m) → IsNewStep own p d s u → option_map fixed u.input.entry ≡ Some (fixed_at (slice_set entries n last.entry) m)
     placed_other true entries n m d s u other apart placed is = absurd cc
     placed_other false entries n m d s u other apart placed is =
         ap (λ (i : Input). option_map fixed i.entry) is.input ∙ placed ∙ ap (λ (e : Entry). Some (fixed e)) (sym (get_or-set_other entries n m last.entry no_entry apart))
 
-    placed_at : (entries : List Entry) (n i : ℕ) (d : Other) (s u : Step) → n < length entries → HasKey n key entries → bytes_eq no_entry.key key ≡ false → is_for key s ≡ bytes_eq (slice_index_or entries i no_entry).key key → option_map fixed s.input.entry ≡ Some (fixed_at entries i) → fixed d.entry ≡ fixed o.entry → IsOther (is_for key s) p d s u → option_map fixed u.input.entry ≡ Some (fixed_at (slice_set entries n last.entry) i)
+    placed_at : (entries : List Entry) (n i : ℕ) (d : Difference) (s u : Step) → n < length entries → HasKey n key entries → bytes_eq no_entry.key key ≡ false → is_for key s ≡ bytes_eq (slice_index_or entries i no_entry).key key → option_map fixed s.input.entry ≡ Some (fixed_at entries i) → fixed d.entry ≡ fixed o.entry → IsNewStep (is_for key s) p d s u → option_map fixed u.input.entry ≡ Some (fixed_at (slice_set entries n last.entry) i)
     placed_at entries n i d s u lt keyed some_key for was same is =
         elim (cases_eq i n) [
           | inl own ↦

@@ -18,8 +18,8 @@ use Rattle.bt_run.specs.Course.{Recorded, course_world, input_at, step_kept, ste
 use Rattle.bt_run.specs.Meaning.{first_globals, run_begun}
 use Rattle.bt_run.specs.ReadCommand.{Job}
 use Rattle.bt_run.specs.inner.Beside.{commands_run}
+use Rattle.bt_run.specs.inner.WalkContext.{LastGoes}
 use Rattle.bt_run.specs.inner.Cases.{command, site_of, unless_stopped}
-use Rattle.bt_run.specs.inner.Order.{LastGoes}
 use Rattle.bt_run.proofs.BesideLemmas.{app}
 
 -- If the last step doesn't stop it, a run isn't stopped.

@@ -38,8 +38,8 @@ pub mod WalkLemmas
 pub mod WalkOrderLemmas
 pub mod LastStepLemmas
 pub mod WalkedLemmas
-pub mod RunBesideLemmas
+pub mod NewRunLemmas
 pub mod WalkedRunLemmas
 pub mod laws
 mod rows
-pub mod OtherEntryLemmas
+pub mod ChangedEntryLemmas

@@ -15,7 +15,9 @@ use Rattle.bt_run.specs.declared.course.Step.{Step}
 use Rattle.bt_run.specs.Meaning.{first_globals, run_begun}
 use Rattle.bt_run.specs.ReadCommand.{Job, found_for, with_blank_variables}
 use Rattle.bt_run.specs.Work.{IsStep}
-use Rattle.bt_run.specs.inner.Beside.{AreBefore, AreBeside, AreReadless, FindsOther, FitsBetween, IsOnlyRead, IsSortAndIterate, Other, SortsAlike, SortsAt, begins_with, beside, commands_run, is_for, is_read, run_before}
+use Rattle.bt_run.specs.inner.Beside.{AreBefore, AreBeside, Difference, FindsChanged, SortsAlike, SortsAt, beside, commands_run, first_of, is_for, run_before}
+use Rattle.bt_run.specs.inner.SortOrder.{FitsBetween, IsSortAndIterate}
+use Rattle.bt_run.specs.inner.WalkContext.{AreReadless, IsOnlyRead, is_read}
 use Rattle.bt_run.specs.inner.Cases.{sort_key}
 use Rattle.bt_run.specs.inner.Course.{recorded}
 use Rattle.bt_run.specs.Commands.{commands_from}
@@ -25,7 +27,6 @@ use Rattle.bt_run.proofs.BesideRunLemmas.{commands_append}
 use Rattle.bt_run.proofs.CommandStepsLemmas.{behind_first, commands_all}
 use Rattle.bt_run.proofs.BesideNumbersLemmas.{sorts_between, sorts_still}
 use Rattle.bt_run.proofs.BesideWholeLemmas.{commands_run_beside}
-use Rattle.bt_run.proofs.KeepKeysLemmas.{commands_go}
 
 read_is : (a : Action) → is_read a ≡ true → a ≡ Read
 read_is Entries h = absurd cc
@@ -53,11 +54,6 @@ only_read cs k d lt reads first behind =
       behind = behind;
     }
 
--- No step stopped a run that has no such step.
-pub run_goes : (job : Job) (log : List Message) → All (λ (s : Step). s.outcome.stop ≡ false) (commands_run job log).seen → (commands_run job log).course.stopped ≡ false
-run_goes job log none =
-    commands_go job 0 job.program.commands (run_begun (first_globals job.program) log) (λ all. refl) none
-
 -- The steps before the first one of a command of this number or a later one are those of the commands before it.
 pub are_before : (job : Job) (log : List Message) (number j : ℕ) → number ≤ length job.program.commands → j ≤ length (commands_run job log).seen → All (λ (s : Step). s.command < number) (take j (commands_run job log).seen) → ((s : Step) → slice_get (commands_run job log).seen j ≡ Some s → number ≤ s.command) → AreBefore number (commands_run job log).seen j
 are_before job log number j within most first here =
@@ -83,20 +79,19 @@ are_before job log number j within most first here =
     record { within = most; before = first; behind = subst (λ (ss : List Step). All Q (drop j ss)) (sym whole) behind }
 
 module _ (job : Job) (law : DependsOnInput job.program) (n : ℕ) (key : List ℕ) (files : List File) (d : FoundEntry) (number : ℕ) (read : IsOnlyRead number job.program.commands)
-    (found : FindsOther n key d (found_for job number) (found_for (record job { files = files }) number) job.program) (log : List Message) where
+    (found : FindsChanged n key d (found_for job number) (found_for (record job { files = files }) number) job.program) (log : List Message) where
   at : number ≡ 0 + length read.front
   at = omega (arith, read.at)
 
-  finds : FindsOther n key d (found_for job (0 + length read.front)) (found_for (record job { files = files }) (0 + length read.front)) job.program
+  finds : FindsChanged n key d (found_for job (0 + length read.front)) (found_for (record job { files = files }) (0 + length read.front)) job.program
   finds =
-      subst (λ (k : ℕ). FindsOther n key d (found_for job k) (found_for (record job { files = files }) k) job.program) at found
+      subst (λ (k : ℕ). FindsChanged n key d (found_for job k) (found_for (record job { files = files }) k) job.program) at found
 
-  -- what the run beside has otherwise from its beginning
-  abbrev pub at_first : Other
-  at_first = begins_with (with_blank_variables job.program d) (run_begun (first_globals job.program) log).course
+  abbrev pub at_first : Difference
+  at_first = first_of job.program (with_blank_variables job.program d)
 
   -- The run over the other files is beside the old one, if each SORT after READ gives both the same order.
-  pub runs_beside : (last : Other) (us : List Step) → AreBeside job.program key at_first (commands_run job log).seen us last →
+  pub runs_beside : (last : Difference) (us : List Step) → AreBeside job.program key at_first (commands_run job log).seen us last →
       ((k : ℕ) (c : Command) → number < k → slice_get job.program.commands k ≡ Some c → c.action ≡ Sort → SortsAt job log n key k at_first us) →
       commands_run (record job { files = files }) log ≡ recorded (beside n last (commands_run job log).course) us
   runs_beside last us is sorts =
@@ -104,13 +99,13 @@ module _ (job : Job) (law : DependsOnInput job.program) (n : ℕ) (key : List �
       (λ k c lt. sorts k c (omega (arith, lt, read.at)))
 
   -- A SORT after READ, and the first ITERATE after it: what its step for the entry says of the order.
-  module _ (goes : (commands_run job log).course.stopped ≡ false) (k m : ℕ) (after : number < k) (two : IsSortAndIterate job.program.commands k m) (o : Other) (i : ℕ) (s : Step) (here : slice_get (commands_run job log).seen i ≡ Some s) (of : s.command ≡ m) (is : IsStep job.program s) (own : is_for key s ≡ true) where
+  module _ (goes : (commands_run job log).course.stopped ≡ false) (k m : ℕ) (after : number < k) (two : IsSortAndIterate job.program.commands k m) (o : Difference) (i : ℕ) (s : Step) (here : slice_get (commands_run job log).seen i ≡ Some s) (of : s.command ≡ m) (is : IsStep job.program s) (own : is_for key s ≡ true) where
     -- The sort key is the old one.
     pub keeps_order : (e : Entry) → s.input.entry ≡ Some e → sort_key o.entry ≡ sort_key e → SortsAlike n o (run_before job log k)
     keeps_order e entry same =
-        sorts_still job law n key files d read.front read.first finds read.line read.back read.behind read.are log goes k m two.sort two.iterate two.target (omega (arith, after, read.at)) two.below two.at two.sorts two.at_next two.iterates two.keep o i s here of is own e entry same
+        sorts_still job law n key files d read.front read.first finds read.line read.back read.behind read.are log goes k m two.sort two.next.command two.next.iterates.target (omega (arith, after, read.at)) two.below two.at two.sorts two.next.at two.next.iterates.is two.next.keep o i s here of is own e entry same
 
     -- It fits between those of the neighbours.
     pub keeps_place : FitsBetween (commands_run job log).seen m i (sort_key o.entry) → SortsAlike n o (run_before job log k)
     keeps_place fits =
-        sorts_between job law n key files d read.front read.first finds read.line read.back read.behind read.are log goes k m two.sort two.iterate two.target (omega (arith, after, read.at)) two.below two.at two.sorts two.at_next two.iterates two.keep o i s here of is own fits
+        sorts_between job law n key files d read.front read.first finds read.line read.back read.behind read.are log goes k m two.sort two.next.command two.next.iterates.target (omega (arith, after, read.at)) two.below two.at two.sorts two.next.at two.next.iterates.is two.next.keep o i s here of is own fits

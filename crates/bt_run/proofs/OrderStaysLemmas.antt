@@ -11,7 +11,7 @@ use Rattle.std.proofs.lemmas.List.{drop_more, get_or-drop, get_or-take, length-a
 use Rattle.std.proofs.lemmas.List.Elements.{All-nil, All-cons, All-tail}
 use Rattle.std.proofs.lemmas.List.Sums.{sum_by-cons}
 use Rattle.bt_run.specs.SortCommand.{sorted}
-use Rattle.bt_run.specs.inner.Beside.{IsUpTo, KeyFits}
+use Rattle.bt_run.specs.inner.SortOrder.{IsUpTo, KeyFits}
 use Rattle.bt_run.specs.inner.Course.{IsArranged}
 use Rattle.bt_run.proofs.SortingLemmas.{Rising, SameSums, Upto, one_list, order_total, range_above, sorted_rises, sorted_sum, sum_of_zeros}
 

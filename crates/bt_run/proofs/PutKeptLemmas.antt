@@ -1,4 +1,4 @@
--- What is kept goes over to the run beside it.
+-- What is kept goes over to the new run.
 use Rattle.std.specs.Prelude.{IsTrue, slice_set}
 use Rattle.std.specs.Option.{ForSome, is_some}
 use Rattle.std.proofs.Common.{◌≡◌, refl, sym, ap, ◌∙◌, subst, ℕ, ◌<◌, Bool, false, List, length, map, All, Option, Some, None, Ok}
@@ -22,7 +22,7 @@ use Rattle.bt_run.specs.inner.Earlier.{fixed}
 use Rattle.bt_run.specs.inner.Found.{AreFoundBy}
 use Rattle.bt_run.specs.inner.Marks.{AreMarked}
 use Rattle.bt_run.specs.inner.Put.{GoesOver, IsEdited, IsPutBeside, with_lengths}
-use Rattle.bt_run.specs.inner.OtherEntry.{IsOtherEntry}
+use Rattle.bt_run.specs.inner.ChangedEntry.{IsChangedEntry}
 use Rattle.bt_run.specs.inner.Turn.{AreInTurn}
 use Rattle.bt_run.specs.inner.Walk.{with_steps}
 use Rattle.bt_run.proofs.FindingLemmas.{put_texts}
@@ -31,7 +31,7 @@ use Rattle.bt_run.proofs.KeptBesideLemmas.{in_turn_beside, last_fixed, marked_be
 use Rattle.bt_run.proofs.PutLemmas.{lengths_put}
 
 -- READ finds the entry in its place once the edit is put.
-entries_put : (was is : KeptResolution) (place : ℕ) (d : FoundEntry) → IsOtherEntry was place d → IsEdited was is → (resolved_for is.resolution).entries ≡ slice_set (resolved_for was.resolution).entries place d
+entries_put : (was is : KeptResolution) (place : ℕ) (d : FoundEntry) → IsChangedEntry was place d → IsEdited was is → (resolved_for is.resolution).entries ≡ slice_set (resolved_for was.resolution).entries place d
 entries_put was is place d other edited =
     let e = other.edit in
     let now = with_database e.number e.items was.resolution in
@@ -58,7 +58,7 @@ goes_some was k r is edited = record {
       subst (IsEdited a) (some_same r b now) (subst (λ (x : KeptResolution). IsEdited x r) (some_same k a (sym is ∙ at)) edited);
 }
 
-found_over : (is_own : Bool) (was is : Option KeptResolution) (entries : List Entry) (place : ℕ) (d : FoundEntry) (p : Program) (last : Entry) → AreFoundBy is_own was entries → GoesOver was is → ForSome was (λ k. IsOtherEntry k place d) → place < length entries → fixed last ≡ fixed (with_blank_variables p d) → AreFoundBy is_own is (slice_set entries place last)
+found_over : (is_own : Bool) (was is : Option KeptResolution) (entries : List Entry) (place : ℕ) (d : FoundEntry) (p : Program) (last : Entry) → AreFoundBy is_own was entries → GoesOver was is → ForSome was (λ k. IsChangedEntry k place d) → place < length entries → fixed last ≡ fixed (with_blank_variables p d) → AreFoundBy is_own is (slice_set entries place last)
 found_over is_own was is entries place d p last found goes other lt same = record {
   some = λ own. subst IsTrue (sym goes.some) (found.some own);
   found = λ own r now.

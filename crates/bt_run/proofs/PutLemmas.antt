@@ -10,7 +10,7 @@ use Rattle.bt_style.specs.Builtins.{table}
 use Rattle.bt_log.specs.Log.{lines_bytes}
 use Rattle.bt_log.specs.declared.message.Message.{Message}
 use Rattle.bt_run.specs.declared.course.Step.{Step}
-use Rattle.bt_run.specs.declared.walk.OtherStep.{OtherStep}
+use Rattle.bt_run.specs.declared.walk.NewStep.{NewStep}
 use Rattle.bt_run.specs.Counts.{counts_told, function_line}
 use Rattle.bt_run.specs.inner.Cases.{bbl_of, bytes_written}
 use Rattle.bt_run.specs.inner.Put.{with_lengths}
@@ -19,26 +19,26 @@ use Rattle.bt_run.proofs.WalkLemmas.{with_more}
 
 -- Steps in the place of others
 
-numbered_upto : (from end : ℕ) (os : List OtherStep) → AreNumbered from end os → from ≤ end
+numbered_upto : (from end : ℕ) (os : List NewStep) → AreNumbered from end os → from ≤ end
 numbered_upto from end [] h = h
 numbered_upto from end (o ∷ os) h = omega (arith, h.0, numbered_upto (o.number + 1) end os h.2)
 
-length_with : (ss : List Step) (os : List OtherStep) → length (with_steps ss os) ≡ length ss
+length_with : (ss : List Step) (os : List NewStep) → length (with_steps ss os) ≡ length ss
 length_with ss [] = refl
 length_with ss (o ∷ os) = length_with (slice_set ss o.number o.step) os ∙ length-set ss o.number o.step
 
-one_more : (os : List OtherStep) (i : ℕ) (o : OtherStep) → i < length os → o ≡ slice_index_or os i o → take i os ++ o ∷ [] ≡ take (i + 1) os
+one_more : (os : List NewStep) (i : ℕ) (o : NewStep) → i < length os → o ≡ slice_index_or os i o → take i os ++ o ∷ [] ≡ take (i + 1) os
 one_more os i o lt at = sym (take_more os i o lt ∙ (λ j. take i os ++ sym at j ∷ []))
 
 -- steps before all of these numbers stay
-still_before : (n from end : ℕ) (os : List OtherStep) (ss : List Step) → n ≤ from → AreNumbered from end os → take n (with_steps ss os) ≡ take n ss
+still_before : (n from end : ℕ) (os : List NewStep) (ss : List Step) → n ≤ from → AreNumbered from end os → take n (with_steps ss os) ≡ take n ss
 still_before n from end [] ss le h = refl
 still_before n from end (o ∷ os) ss le h =
     still_before n (o.number + 1) end os (slice_set ss o.number o.step) (omega (arith, le, h.0)) h.2
     ∙ take-set-le n ss o.number o.step (omega (arith, le, h.0))
 
 -- the first one can be put last
-put_last : (n : ℕ) (t : Step) (from end : ℕ) (os : List OtherStep) (ss : List Step) → n < from → AreNumbered from end os → with_steps (slice_set ss n t) os ≡ slice_set (with_steps ss os) n t
+put_last : (n : ℕ) (t : Step) (from end : ℕ) (os : List NewStep) (ss : List Step) → n < from → AreNumbered from end os → with_steps (slice_set ss n t) os ≡ slice_set (with_steps ss os) n t
 put_last n t from end [] ss lt h = refl
 put_last n t from end (o ∷ os) ss lt h =
     let apart : n ≢ o.number = λ same. absurd (omega (arith, same, lt, h.0)) in
@@ -47,27 +47,27 @@ put_last n t from end (o ∷ os) ss lt h =
 
 -- one after another
 
-pub put_more : (ss : List Step) (os : List OtherStep) (o : OtherStep) (now next : List Step) → now ≡ with_steps ss os → next ≡ slice_set now o.number o.step → next ≡ with_steps ss (os ++ o ∷ [])
+pub put_more : (ss : List Step) (os : List NewStep) (o : NewStep) (now next : List Step) → now ≡ with_steps ss os → next ≡ slice_set now o.number o.step → next ≡ with_steps ss (os ++ o ∷ [])
 put_more ss os o now next is put = put ∙ ap (λ (us : List Step). slice_set us o.number o.step) is ∙ sym (with_more ss os o)
 
-pub put_beyond : (ss : List Step) (os : List OtherStep) (o : OtherStep) (now : List Step) → now ≡ with_steps ss os → (o.number < length now → ⊥) → now ≡ with_steps ss (os ++ o ∷ [])
+pub put_beyond : (ss : List Step) (os : List NewStep) (o : NewStep) (now : List Step) → now ≡ with_steps ss os → (o.number < length now → ⊥) → now ≡ with_steps ss (os ++ o ∷ [])
 put_beyond ss os o now is beyond = put_more ss os o now now is (sym (set_past now o.number o.step (omega (arith, beyond))))
 
 -- their lengths
 
-lengths_with : (ns : List ℕ) (os : List OtherStep) (o : OtherStep) → with_lengths ns (os ++ o ∷ []) ≡ slice_set (with_lengths ns os) o.number o.length
+lengths_with : (ns : List ℕ) (os : List NewStep) (o : NewStep) → with_lengths ns (os ++ o ∷ []) ≡ slice_set (with_lengths ns os) o.number o.length
 lengths_with ns [] o = refl
 lengths_with ns (x ∷ os) o = lengths_with (slice_set ns x.number x.length) os o
 
-pub lengths_more : (ns : List ℕ) (os : List OtherStep) (i : ℕ) (o : OtherStep) (now next : List ℕ) → i < length os → o ≡ slice_index_or os i o → now ≡ with_lengths ns (take i os) → next ≡ slice_set now o.number o.length → next ≡ with_lengths ns (take (i + 1) os)
+pub lengths_more : (ns : List ℕ) (os : List NewStep) (i : ℕ) (o : NewStep) (now next : List ℕ) → i < length os → o ≡ slice_index_or os i o → now ≡ with_lengths ns (take i os) → next ≡ slice_set now o.number o.length → next ≡ with_lengths ns (take (i + 1) os)
 lengths_more ns os i o now next lt at is put =
     put ∙ ap (λ (ms : List ℕ). slice_set ms o.number o.length) is ∙ sym (lengths_with ns (take i os) o) ∙ ap (with_lengths ns) (one_more os i o lt at)
 
-pub lengths_beyond : (ns : List ℕ) (os : List OtherStep) (i : ℕ) (o : OtherStep) (now : List ℕ) → i < length os → o ≡ slice_index_or os i o → now ≡ with_lengths ns (take i os) → length now ≤ o.number → now ≡ with_lengths ns (take (i + 1) os)
+pub lengths_beyond : (ns : List ℕ) (os : List NewStep) (i : ℕ) (o : NewStep) (now : List ℕ) → i < length os → o ≡ slice_index_or os i o → now ≡ with_lengths ns (take i os) → length now ≤ o.number → now ≡ with_lengths ns (take (i + 1) os)
 lengths_beyond ns os i o now lt at is beyond =
     lengths_more ns os i o now now lt at is (sym (set_past now o.number o.length beyond))
 
-pub lengths_put : (ss : List Step) (from end : ℕ) (os : List OtherStep) → AreNumbered from end os → with_lengths (map bytes_written ss) os ≡ map bytes_written (with_steps ss os)
+pub lengths_put : (ss : List Step) (from end : ℕ) (os : List NewStep) → AreNumbered from end os → with_lengths (map bytes_written ss) os ≡ map bytes_written (with_steps ss os)
 lengths_put ss from end [] h = refl
 lengths_put ss from end (o ∷ os) h =
     ap (λ (ns : List ℕ). with_lengths ns os) ((λ j. slice_set (map bytes_written ss) o.number (h.1 j)) ∙ sym (map-set bytes_written ss o.number o.step))
@@ -92,8 +92,8 @@ abbrev line : Step → List ℕ
 line s = lines_bytes s.outcome.lines
 
 -- the steps from a number on up to the next one that is put, and that one
-module _ (ss : List Step) (others : List OtherStep) (i number : ℕ) (o : OtherStep) (lt : i < length others) (at : o ≡ slice_index_or others i o) (numbered : AreNumbered number (length ss) (drop i others)) where
-  abbrev os : List OtherStep
+module _ (ss : List Step) (others : List NewStep) (i number : ℕ) (o : NewStep) (lt : i < length others) (at : o ≡ slice_index_or others i o) (numbered : AreNumbered number (length ss) (drop i others)) where
+  abbrev os : List NewStep
   os = drop (i + 1) others
 
   here : drop i others ≡ o ∷ os

@@ -25,6 +25,7 @@ use Rattle.bt_resolve.specs.declared.question.Question.{Question}
 use Rattle.bt_resolve.specs.declared.seen_edit.SeenEdit.{SeenEdit}
 use Rattle.bt_resolve.specs.declared.seen_edit.SeenEdit.TheVariants.{Same}
 use Rattle.bt_resolve.specs.inner.Kept.{IsResolvedEdit, resolved_for, with_database, with_seen}
+use Rattle.bt_run.specs.declared.change.Change.{Change}
 use Rattle.bt_run.specs.declared.answers.Report.{Report}
 use Rattle.bt_run.specs.declared.answers.Run.{Run}
 use Rattle.bt_run.specs.declared.course.Step.{Step}
@@ -40,9 +41,9 @@ use Rattle.bt_run.specs.Steps.{styled_work, work_after}
 use Rattle.bt_run.specs.Work.{agrees_with, total_cost, was_done, work_under}
 use Rattle.bt_run.specs.inner.Asked.{question_for, with_databases}
 use Rattle.bt_run.specs.inner.Cases.{job_for, read_in, run_with, styled, text_in, unless_stopped}
-use Rattle.bt_run.specs.inner.OtherEntry.{IsAskedOf}
 use Rattle.bt_run.specs.inner.Steps.{run_shown}
-use Rattle.bt_run.specs.inner.Unseen.{AreAsked, AreFilesOf, AreOtherwise, DeclaresAt, FindTheSame, IsOnlyAt, IsRunOf, IsSameRun, IsStyledBy, IsUnseen}
+use Rattle.bt_run.specs.inner.Change.{AreAsked, DeclaresAt, IsAskedOf, IsOnlyAt, IsStyledBy}
+use Rattle.bt_run.specs.inner.Unseen.{AreFilesOf, AreOtherwise, FindTheSame, IsRunOf, IsSameRun, IsUnseen}
 use Rattle.bt_run.proofs.AnswerLemmas.{kept_text, meant}
 use Rattle.bt_run.proofs.FindingLemmas.{maps, put_texts, resolved_is, texts_kept}
 use Rattle.bt_run.proofs.WorkLemmas.{same_itself}
@@ -220,7 +221,7 @@ gone_over name was files names texts others e rest were are is only =
     are ∙ ap (λ (ts : List (List ℕ)). slice_set ts e.number e.text) were ∙ sym (texts_after name was files e.text e.number names rest is only)
 
 -- the edit is put
-module _ (name : List ℕ) (was files : List File) (root : List ℕ) (min : ℕ) (k v : KeptResolution) (unseen : IsUnseen k)
+module _ (h : Change) (k v : KeptResolution) (unseen : IsUnseen k)
     (put : ForSome k.edit (λ e. ForSome e.made (λ made. v.resolution ≡ with_databases (map pieces_of (slice_set k.texts e.number e.text)) k.resolution))) where
   pub found_still : resolved_for v.resolution ≡ resolved_for k.resolution
   found_still =
@@ -228,23 +229,32 @@ module _ (name : List ℕ) (was files : List File) (root : List ℕ) (min : ℕ)
       over_same k.resolution v.resolution k.texts e.number e.text e.items unseen.made k.read e.read (k.edited e unseen.is_edit unseen.made unseen.is_made) unseen.seen unseen.messages
       (put e unseen.is_edit unseen.made unseen.is_made)
 
-  module _ (p : Program) (asks : IsAskedOf name was files root min k p) (were : AreFilesOf was root k) (rest : AreOtherwise name was files)
+  module _ (p : Program) (asks : IsAskedOf h k p) (were : AreFilesOf h.was.now h.root.now k) (rest : AreOtherwise h.name.now h.was.now h.files.now)
       (texts : ForSome k.edit (λ e. ForSome e.made (λ made. v.texts ≡ slice_set k.texts e.number e.text))) where
+    abbrev was : List File
+    was = h.was.now
+
+    abbrev files : List File
+    files = h.files.now
+
+    abbrev root : List ℕ
+    root = h.root.now
+
     texts_now : v.texts ≡ map (text_in files) (citations was root).databases
     texts_now =
         let e = unseen.edit in
         let edited = asks.edited e unseen.is_edit in
-        gone_over name was files (citations was root).databases k.texts v.texts e rest were (texts e unseen.is_edit unseen.made unseen.is_made) edited.0 edited.1
+        gone_over h.name.now was files (citations was root).databases k.texts v.texts e rest were (texts e unseen.is_edit unseen.made unseen.is_made) edited.0 edited.1
 
     pub files_over : AreFilesOf files root v
     files_over = texts_now ∙ ap (λ (c : Citations). map (text_in files) c.databases) (sym asks.same)
 
-    pub run_over : IsSameRun was files root min
+    pub run_over : IsSameRun was files root h.min
     run_over =
         let e = unseen.edit in
         let c = citations was root in
-        same_run was files root min c asks.style p (sym asks.same) refl asks.named asks.styled
-        (find_same was files c min asks.style p k.resolution v.resolution k.texts v.texts asks.asked
+        same_run was files root h.min c asks.style p (sym asks.same) refl asks.named asks.styled
+        (find_same was files c h.min asks.style p k.resolution v.resolution k.texts v.texts asks.asked
         (texts_kept k.resolution k.texts k.texts k.read refl)
         (put e unseen.is_edit unseen.made unseen.is_made ∙ ap (λ (ts : List (List ℕ)). with_databases (map pieces_of ts) k.resolution) (sym (texts e unseen.is_edit unseen.made unseen.is_made)))
         were texts_now found_still)

@@ -14,15 +14,15 @@ use Rattle.bt_machine.specs.declared.input.Input.{Input}
 use Rattle.bt_run.specs.declared.course.Step.{Step}
 use Rattle.bt_run.specs.declared.mark.Mark.{Mark}
 use Rattle.bt_run.specs.declared.reuse.Reuse.{Reuse}
-use Rattle.bt_run.specs.declared.walk.OtherStep.{OtherStep}
+use Rattle.bt_run.specs.declared.walk.NewStep.{NewStep}
 use Rattle.bt_run.specs.declared.walk.Walk.{Walk}
 use Rattle.bt_run.specs.Work.{IsStep, total_cost, work_under}
-use Rattle.bt_run.specs.inner.Beside.{AreUpTo, HasKey, IsCountedUpTo, IsGivenAlike, IsOther, Other, given, is_for, left}
+use Rattle.bt_run.specs.inner.Beside.{AreUpTo, Difference, HasKey, IsCountedUpTo, IsGivenAlike, IsNewStep, MayLeave, given, is_for, left}
 use Rattle.bt_run.specs.inner.Calls.{AreCalls}
 use Rattle.bt_run.specs.inner.Course.{with_variables}
 use Rattle.bt_run.specs.inner.Marks.{AreMarked}
 use Rattle.bt_run.specs.inner.Turn.{AreInTurn}
-use Rattle.bt_run.specs.inner.Walk.{AreNumbered, IsAgain, IsAt, IsNoted, IsPutAt, IsWalked, IsWalkedOut, MayLeave, given_to, with_steps}
+use Rattle.bt_run.specs.inner.Walk.{AreNumbered, IsAgain, IsAt, IsNoted, IsPutAt, IsWalked, IsWalkedOut, given_to, with_steps}
 use Rattle.bt_run.specs.inner.Work.{IsNext}
 use Rattle.bt_run.proofs.BesideStepsLemmas.{all_upto, alike_next, calls_put, none_counted, none_upto, put_counted, put_upto, same_upto, step_at, stretch_counted}
 use Rattle.bt_run.proofs.KeptBesideLemmas.{step_for}
@@ -47,36 +47,36 @@ own_place p key entries ss marks k m n s mark all marked keyed at placed here lt
 
 -- Steps in the place of some
 
-pub with_more : (ss : List Step) (os : List OtherStep) (o : OtherStep) → with_steps ss (os ++ o ∷ []) ≡ slice_set (with_steps ss os) o.number o.step
+pub with_more : (ss : List Step) (os : List NewStep) (o : NewStep) → with_steps ss (os ++ o ∷ []) ≡ slice_set (with_steps ss os) o.number o.step
 with_more ss [] o = refl
 with_more ss (x ∷ os) o = with_more (slice_set ss x.number x.step) os o
 
 -- the numbers of the steps that were made again
 
-numbered_more : (from end : ℕ) (os : List OtherStep) → AreNumbered from end os → AreNumbered from (end + 1) os
+numbered_more : (from end : ℕ) (os : List NewStep) → AreNumbered from end os → AreNumbered from (end + 1) os
 numbered_more from end [] h = omega (arith, h)
 numbered_more from end (o ∷ os) h = (h.0, h.1, numbered_more (o.number + 1) end os h.2)
 
-numbered_put : (from : ℕ) (os : List OtherStep) (o : OtherStep) → o.length ≡ length (lines_bytes o.step.outcome.lines) → AreNumbered from o.number os → AreNumbered from (o.number + 1) (os ++ o ∷ [])
+numbered_put : (from : ℕ) (os : List NewStep) (o : NewStep) → o.length ≡ length (lines_bytes o.step.outcome.lines) → AreNumbered from o.number os → AreNumbered from (o.number + 1) (os ++ o ∷ [])
 numbered_put from [] o long h = (h, long, omega arith)
 numbered_put from (x ∷ os) o long h = (h.0, h.1, numbered_put (x.number + 1) os o long h.2)
 
 -- What the next step is given
 
-given_if : (b own : Bool) (e : Entry) (g : Variables) (h : List ℕ) (now : Other) (i : Input) → now.entry ≡ e → (b ≡ true → now.globals ≡ i.globals) → (b ≡ true → now.held ≡ i.held) → (b ≡ false → now.globals ≡ g) → (b ≡ false → now.held ≡ h) → (record i { entry = if own then Some e else i.entry; globals = if b then i.globals else g; held = if b then i.held else h }) ≡ given own now i
+given_if : (b own : Bool) (e : Entry) (g : Variables) (h : List ℕ) (now : Difference) (i : Input) → now.entry ≡ e → (b ≡ true → now.globals ≡ i.globals) → (b ≡ true → now.held ≡ i.held) → (b ≡ false → now.globals ≡ g) → (b ≡ false → now.held ≡ h) → (record i { entry = if own then Some e else i.entry; globals = if b then i.globals else g; held = if b then i.held else h }) ≡ given own now i
 given_if true own e g h now i entry globals held other_globals other_held =
     λ j. record i { entry = if own then Some (sym entry j) else i.entry; globals = sym (globals refl) j; held = sym (held refl) j }
 given_if false own e g h now i entry globals held other_globals other_held =
     λ j. record i { entry = if own then Some (sym entry j) else i.entry; globals = sym (other_globals refl) j; held = sym (other_held refl) j }
 
-given_is : (own : Bool) (ss : List Step) (k : ℕ) (w : Walk) (now : Other) (s : Step) → IsAt ss k w now → slice_get ss k ≡ Some s → given_to own w s.input ≡ given own now s.input
+given_is : (own : Bool) (ss : List Step) (k : ℕ) (w : Walk) (now : Difference) (s : Step) → IsAt ss k w now → slice_get ss k ≡ Some s → given_to own w s.input ≡ given own now s.input
 given_is own ss k w now s at here =
     given_if w.in_step own w.entry w.globals w.held now s.input at.entry (λ is. (at.alike is s here).globals) (λ is. (at.alike is s here).held) at.globals at.held
 
-entry_left : (own : Bool) (now : Other) (t : Step) (e : Entry) → now.entry ≡ e → (left own now t).entry ≡ (if own then with_variables t.outcome.variables e else e)
+entry_left : (own : Bool) (now : Difference) (t : Step) (e : Entry) → now.entry ≡ e → (left own now t).entry ≡ (if own then with_variables t.outcome.variables e else e)
 entry_left own now t e is = ap (λ (d : Entry). if own then with_variables t.outcome.variables d else d) is
 
-module _ (p : Program) (key : List ℕ) (first : Other) (ss : List Step) where
+module _ (p : Program) (key : List ℕ) (first : Difference) (ss : List Step) where
   -- no step yet
   pub walked_none : (w : Walk) → w.steps ≡ [] → w.entry ≡ first.entry → w.globals ≡ first.globals → w.held ≡ first.held → (w.in_step ≡ true → (s : Step) → slice_get ss 0 ≡ Some s → IsGivenAlike first s) → w.reuse.ran ≡ 0 → w.reuse.meter ≡ 0 → w.reuse.known ≡ [] → w.reuse.lookup.index ≡ None → AreCalls ss w.calls → IsWalked p key first ss 0 w
   walked_none w none entry globals held alike ran meter known index called =
@@ -108,8 +108,8 @@ module _ (p : Program) (key : List ℕ) (first : Other) (ss : List Step) where
       }
 
   -- what was found of SORT says nothing of the steps
-  pub walked_sorted : (k sorted : ℕ) (w : Walk) → IsWalked p key first ss k w → IsWalked p key first ss k (record w { sorted = sorted })
-  walked_sorted k sorted w walked = record {
+  pub walked_to : (k last : ℕ) (w : Walk) → IsWalked p key first ss k w → IsWalked p key first ss k (record w { last_command = last })
+  walked_to k last w walked = record {
     now = walked.now;
     at = record { entry = walked.at.entry; alike = walked.at.alike; globals = walked.at.globals; held = walked.at.held };
     upto = walked.upto;
@@ -156,19 +156,17 @@ module _ (p : Program) (key : List ℕ) (first : Other) (ss : List Step) where
     pub walked_made : (own : Bool) (t : Step) (r : Reuse) (v : Walk) → is_for key s ≡ own → IsAgain own w s t → IsNext p ss t w.reuse r → MayLeave own t.outcome s.outcome → IsNoted own k s t (record w { reuse = r }) v → IsWalked p key first ss (k + 1) v
     walked_made own t r v for again next may noted =
         let now = walked.now in
-        let other : IsOther own p now s t = record {
+        let other : IsNewStep own p now s t = record {
           is = next.step;
           command = again.command;
           input = again.input ∙ given_is own ss k w now s walked.at here;
-          messages = may.messages;
-          stop = may.stop;
-          variables = may.variables;
+          left = may;
         } in
-        let o : OtherStep = record { number = k; step = t; length = noted.long } in
+        let o : NewStep = record { number = k; step = t; length = noted.long } in
         let are : with_steps ss v.steps ≡ slice_set us k t = ap (with_steps ss) noted.steps ∙ with_more ss w.steps o in
         let upto : AreUpTo p key first ss (slice_set us k t) (k + 1) (left own now t) =
         subst (λ (b : Bool). AreUpTo p key first ss (slice_set us k t) (k + 1) (left b now t)) for
-        (put_upto p key first ss us k now s t here walked.upto (subst (λ (b : Bool). IsOther b p now s t) (sym for) other))
+        (put_upto p key first ss us k now s t here walked.upto (subst (λ (b : Bool). IsNewStep b p now s t) (sym for) other))
         in
         record {
           now = left own now t;
@@ -192,4 +190,4 @@ put_steps ss k w v put =
 
 pub noted_put : (own : Bool) (k : ℕ) (s t : Step) (w : Walk) (r : Reuse) (v : Walk) → IsNoted own k s t (record w { reuse = r }) v → IsPutAt k w v
 noted_put own k s t w r v noted =
-    record { other = record { number = k; step = t; length = noted.long }; number = refl; steps = noted.steps; sorted = noted.sorted }
+    record { other = record { number = k; step = t; length = noted.long }; number = refl; steps = noted.steps; last = noted.last }

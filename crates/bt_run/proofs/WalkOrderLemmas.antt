@@ -13,10 +13,10 @@ use Rattle.bt_style.specs.Program.{Program}
 use Rattle.bt_actions.specs.declared.entry.Entry.{Entry}
 use Rattle.bt_run.specs.declared.course.Step.{Step}
 use Rattle.bt_run.specs.declared.walk.Walk.{Walk}
-use Rattle.bt_run.specs.inner.Beside.{IsSortAndIterate, Other, is_for, keeps_entries}
+use Rattle.bt_run.specs.inner.Beside.{Difference, is_for}
+use Rattle.bt_run.specs.inner.SortOrder.{HasItsPlace, HasNoSort, IsBefore, IsBehind, IsFirstSort, IsIterate, IsIterated, IsSortAndIterate, KeepsOrder, is_sort, keeps_entries}
 use Rattle.bt_run.specs.inner.Cases.{sort_key}
 use Rattle.bt_run.specs.inner.Walk.{AreOrdered, HasOrder, IsWalked, with_steps}
-use Rattle.bt_run.specs.inner.Order.{HasItsPlace, HasNoSort, IsBefore, IsBehind, IsFirstSort, IsIterate, IsIterated, KeepsOrder, is_sort}
 use Rattle.bt_run.proofs.BesideStepsLemmas.{early_put}
 use Rattle.bt_run.proofs.KeptBesideLemmas.{some_same}
 
@@ -48,14 +48,10 @@ pub keeps_one : (commands : List Command) (ss : List Step) (k : ℕ) (s : Step) 
 keeps_one commands ss k s e after number first above then place =
     let two : IsSortAndIterate commands number s.command = record {
       sort = first.sort;
-      iterate = then.command;
-      target = then.iterates.target;
       below = first.below;
       at = first.at;
       sorts = sorts_is first.sort.action first.sorts;
-      at_next = then.at;
-      iterates = then.iterates.is;
-      keep = λ i c low high at. then.keep i c low high at;
+      next = then;
     } in
     record {
       above = omega (arith, above, first.below);
@@ -111,8 +107,8 @@ place_between ss k s e old is behind before =
 
 -- The walk
 
-module _ (p : Program) (key : List ℕ) (first : Other) (ss : List Step) (read : ℕ) where
-  pub ordered_none : (w : Walk) → w.sorted ≡ read → AreOrdered p key first ss read 0 w
+module _ (p : Program) (key : List ℕ) (first : Difference) (ss : List Step) (read : ℕ) where
+  pub ordered_none : (w : Walk) → w.last_command ≡ read → AreOrdered p key first ss read 0 w
   ordered_none w is =
       record { above = λ x t lt at own. absurd (omega (arith, lt)); each = λ n c low high at sorts. absurd (omega (arith, low, high, is)) }
 
@@ -151,7 +147,7 @@ module _ (p : Program) (key : List ℕ) (first : Other) (ss : List Step) (read :
 
   module _ (k : ℕ) (s : Step) (here : slice_get ss k ≡ Some s) (w : Walk) (ordered : AreOrdered p key first ss read k w) where
     -- whose the step is decides of the commands of the steps for the entry
-    above_on : (bound : ℕ) → w.sorted ≤ bound → (is_for key s ≡ true → s.command ≤ bound) → (x : ℕ) (t : Step) → x < k + 1 → slice_get ss x ≡ Some t → is_for key t ≡ true → t.command ≤ bound
+    above_on : (bound : ℕ) → w.last_command ≤ bound → (is_for key s ≡ true → s.command ≤ bound) → (x : ℕ) (t : Step) → x < k + 1 → slice_get ss x ≡ Some t → is_for key t ≡ true → t.command ≤ bound
     above_on bound more now x t lt at own = elim (cases_lt x k) [
       | inl less ↦ omega (arith, ordered.above x t less at own, more)
       | inr not_less ↦
@@ -167,27 +163,27 @@ module _ (p : Program) (key : List ℕ) (first : Other) (ss : List Step) (read :
     -- a step for another entry that stays
     pub ordered_passed : is_for key s ≡ false → AreOrdered p key first ss read (k + 1) w
     ordered_passed other = record {
-      above = above_on w.sorted (omega arith) (none_now w.sorted other);
+      above = above_on w.last_command (omega arith) (none_now w.last_command other);
       each = λ n c low high at sorts. found_on (with_steps ss w.steps) k n (ordered.each n c low high at sorts);
     }
 
     -- a step for another entry that is made again
-    pub ordered_other : (u : Step) (v : Walk) → is_for key s ≡ false → with_steps ss v.steps ≡ slice_set (with_steps ss w.steps) k u → v.sorted ≡ w.sorted → AreOrdered p key first ss read (k + 1) v
+    pub ordered_other : (u : Step) (v : Walk) → is_for key s ≡ false → with_steps ss v.steps ≡ slice_set (with_steps ss w.steps) k u → v.last_command ≡ w.last_command → AreOrdered p key first ss read (k + 1) v
     ordered_other u v other are sorted = record {
-      above = above_on v.sorted (omega (arith, sorted)) (none_now v.sorted other);
+      above = above_on v.last_command (omega (arith, sorted)) (none_now v.last_command other);
       each = λ n c low high at sorts. subst (λ (us : List Step). HasOrder p key first ss us (k + 1) n) (sym are)
           (found_still (with_steps ss w.steps) k n u (ordered.each n c low (omega (arith, high, sorted)) at sorts));
     }
 
     -- a step for the entry
-    pub ordered_own : (u : Step) (v : Walk) → is_for key s ≡ true → IsWalked p key first ss k w → KeepsOrder p.commands ss k s w.entry w.sorted → with_steps ss v.steps ≡ slice_set (with_steps ss w.steps) k u → v.sorted ≡ s.command → AreOrdered p key first ss read (k + 1) v
+    pub ordered_own : (u : Step) (v : Walk) → is_for key s ≡ true → IsWalked p key first ss k w → KeepsOrder p.commands ss k s w.entry w.last_command → with_steps ss v.steps ≡ slice_set (with_steps ss w.steps) k u → v.last_command ≡ s.command → AreOrdered p key first ss read (k + 1) v
     ordered_own u v own walked keeps are sorted =
         let us = with_steps ss w.steps in
         let now = walked.now in
-        let fresh : (n : ℕ) (c : Command) → w.sorted ≤ n → n < s.command → slice_get p.commands n ≡ Some c → c.action ≡ Sort → HasOrder p key first ss (slice_set us k u) (k + 1) n =
+        let fresh : (n : ℕ) (c : Command) → w.last_command ≤ n → n < s.command → slice_get p.commands n ≡ Some c → c.action ≡ Sort → HasOrder p key first ss (slice_set us k u) (k + 1) n =
         λ n c low high at sorts.
         let found = keeps.sorts n c low high at sorts in
-        let above_n : w.sorted < n = found.0 in
+        let above_n : w.last_command < n = found.0 in
         record {
           i = k;
           s = s;
@@ -202,8 +198,8 @@ module _ (p : Program) (key : List ℕ) (first : Other) (ss : List Step) (read :
         }
         in
         record {
-          above = above_on v.sorted (omega (arith, sorted, keeps.above)) (λ is. omega (arith, sorted));
-          each = λ n c low high at sorts. subst (λ (vs : List Step). HasOrder p key first ss vs (k + 1) n) (sym are) (elim (cases_lt n w.sorted) [
+          above = above_on v.last_command (omega (arith, sorted, keeps.above)) (λ is. omega (arith, sorted));
+          each = λ n c low high at sorts. subst (λ (vs : List Step). HasOrder p key first ss vs (k + 1) n) (sym are) (elim (cases_lt n w.last_command) [
             | inl less ↦ found_still us k n u (ordered.each n c low less at sorts)
             | inr more ↦ fresh n c more (omega (arith, high, sorted)) at sorts
           ]);

@@ -15,7 +15,9 @@ use Rattle.bt_resolve.specs.declared.entry.Entry.{Entry as FoundEntry}
 use Rattle.bt_run.specs.declared.course.Step.{Step}
 use Rattle.bt_run.specs.ReadCommand.{Job, found_for}
 use Rattle.bt_run.specs.Work.{IsStep}
-use Rattle.bt_run.specs.inner.Beside.{AreBefore, AreBeside, FindsOther, FitsBetween, IsOnlyRead, Other, SortsAlike, SortsAt, commands_run, is_for, left, run_before}
+use Rattle.bt_run.specs.inner.Beside.{AreBefore, AreBeside, Difference, FindsChanged, SortsAlike, SortsAt, commands_run, is_for, left, run_before}
+use Rattle.bt_run.specs.inner.SortOrder.{FitsBetween}
+use Rattle.bt_run.specs.inner.WalkContext.{IsOnlyRead}
 use Rattle.bt_run.specs.inner.Cases.{sort_key}
 use Rattle.bt_run.specs.inner.Walk.{HasOrder}
 use Rattle.bt_run.proofs.BesideStepsLemmas.{step_at}
@@ -77,12 +79,12 @@ first_step number (s ∷ ss) = elim (cases_lt s.command number) [
 
 module _ (p : Program) (key : List ℕ) where
   -- The run beside is split at each number of steps.
-  record Split (o now : Other) (ss us : List Step) (j : ℕ) : Type 0 where
-    mid : Other
+  record Split (o now : Difference) (ss us : List Step) (j : ℕ) : Type 0 where
+    mid : Difference
     first : AreBeside p key o (take j ss) (take j us) mid
     rest : AreBeside p key mid (drop j ss) (drop j us) now
 
-  split_at : (o now : Other) (ss us : List Step) (j : ℕ) → AreBeside p key o ss us now → Split o now ss us j
+  split_at : (o now : Difference) (ss us : List Step) (j : ℕ) → AreBeside p key o ss us now → Split o now ss us j
   split_at o now ss us zero is = record { mid = o; first = refl; rest = is }
   split_at o now [] [] (suc j) is = record { mid = o; first = refl; rest = is }
   split_at o now [] (u ∷ us) (suc j) is = absurd is
@@ -92,12 +94,12 @@ module _ (p : Program) (key : List ℕ) where
       record { mid = more.mid; first = (is.0, more.first); rest = more.rest }
 
   -- Steps for other entries keep the entry.
-  left_other : (own : Bool) (o : Other) (u : Step) → own ≡ false → (left own o u).entry ≡ o.entry
+  left_other : (own : Bool) (o : Difference) (u : Step) → own ≡ false → (left own o u).entry ≡ o.entry
   left_other true o u h = absurd cc
   left_other false o u h = refl
 
-  entry_stays : (o now : Other) (ss us : List Step) → AreBeside p key o ss us now → All (λ (s : Step). is_for key s ≡ false) ss → now.entry ≡ o.entry
-  entry_stays o now [] [] is others = ap (λ (m : Other). m.entry) is
+  entry_stays : (o now : Difference) (ss us : List Step) → AreBeside p key o ss us now → All (λ (s : Step). is_for key s ≡ false) ss → now.entry ≡ o.entry
+  entry_stays o now [] [] is others = ap (λ (m : Difference). m.entry) is
   entry_stays o now [] (u ∷ us) is others = absurd is
   entry_stays o now (s ∷ ss) [] is others = absurd is
   entry_stays o now (s ∷ ss) (u ∷ us) is others =
@@ -106,13 +108,13 @@ module _ (p : Program) (key : List ℕ) where
       ∙ left_other (is_for key s) o u (All-head other s ss others)
 
 module _ (job : Job) (law : DependsOnInput job.program) (n : ℕ) (key : List ℕ) (files : List File) (d : FoundEntry) (number : ℕ) (read : IsOnlyRead number job.program.commands)
-    (found : FindsOther n key d (found_for job number) (found_for (record job { files = files }) number) job.program) (log : List Message) (goes : (commands_run job log).course.stopped ≡ false) (all : All (IsStep job.program) (commands_run job log).seen)
-    (first : Other) (us : List Step) (k c : ℕ) (after : number < c) (h : HasOrder job.program key first (commands_run job log).seen us k c) where
+    (found : FindsChanged n key d (found_for job number) (found_for (record job { files = files }) number) job.program) (log : List Message) (goes : (commands_run job log).course.stopped ≡ false) (all : All (IsStep job.program) (commands_run job log).seen)
+    (first : Difference) (us : List Step) (k c : ℕ) (after : number < c) (h : HasOrder job.program key first (commands_run job log).seen us k c) where
   abbrev seen : List Step
   seen = (commands_run job log).seen
 
   -- the sort key is the old one, or fits between those of the neighbours
-  alike_if : (mid : Other) → h.now.entry ≡ mid.entry → (same : Bool) → bytes_eq (sort_key h.keeps.old) (sort_key h.now.entry) ≡ same → SortsAlike n mid (run_before job log c)
+  alike_if : (mid : Difference) → h.now.entry ≡ mid.entry → (same : Bool) → bytes_eq (sort_key h.keeps.old) (sort_key h.now.entry) ≡ same → SortsAlike n mid (run_before job log c)
   alike_if mid entry true same =
       keeps_order job law n key files d number read found log goes c h.s.command after h.two mid h.i h.s h.at refl (step_at job.program seen h.i h.s all h.at) h.own h.keeps.old h.keeps.is
       (ap sort_key (sym entry) ∙ sym ((bytes_eq-Decides (sort_key h.keeps.old) (sort_key h.now.entry)).0 same))

@@ -1,6 +1,6 @@
--- What files mean after an edit by which READ finds one entry otherwise, by a walk that passed all steps.
+-- What the new files mean after an edit that changes one entry, by a walk past all steps.
 use Rattle.std.specs.Prelude.{bytes_eq, slice_get, if◌then◌else◌}
-use Rattle.std.proofs.Common.{◌≡◌, refl, sym, ap, ◌∙◌, subst, inl, inr, ℕ, ◌-◌, ◌<◌, Bool, true, false, List, [], ◌++◌, length, All, Option, Some, Ok, arith}
+use Rattle.std.proofs.Common.{◌≡◌, refl, sym, ap, ◌∙◌, subst, inl, inr, ℕ, ◌-◌, ◌<◌, Bool, true, false, List, ◌++◌, length, All, Option, Some, Ok, arith}
 use Rattle.std.proofs.lemmas.Bool.{cases_lt}
 use Rattle.std.proofs.lemmas.Option.{slice_get_within}
 use Rattle.std.proofs.lemmas.Slice.Eq.{bytes_eq-Decides}
@@ -19,15 +19,16 @@ use Rattle.bt_run.specs.declared.walk.Walk.{Walk}
 use Rattle.bt_run.specs.Counts.{calls_at, counts_told}
 use Rattle.bt_run.specs.Course.{Recorded}
 use Rattle.bt_run.specs.Kept.{named_text, report_after, style_text}
-use Rattle.bt_run.specs.Meaning.{Meaning, first_globals, meaning, trace}
+use Rattle.bt_run.specs.Meaning.{Meaning, meaning, trace}
 use Rattle.bt_run.specs.ReadCommand.{Job, found_for, with_blank_variables}
 use Rattle.bt_run.specs.Steps.{styled_work, work_after}
 use Rattle.bt_run.specs.Work.{IsStep, total_cost, work_under}
-use Rattle.bt_run.specs.inner.Beside.{AreBeside, FindsOther, IsOnlyRead, Other, SortsAt, commands_run}
+use Rattle.bt_run.specs.inner.Beside.{AreBeside, Difference, FindsChanged, SortsAt, commands_run, first_of}
+use Rattle.bt_run.specs.inner.SortOrder.{HasNoSort}
+use Rattle.bt_run.specs.inner.WalkContext.{IsOnlyRead, LastGoes}
 use Rattle.bt_run.specs.inner.Cases.{bbl_of, job_for, shown_of, text_in, with_counts}
-use Rattle.bt_run.specs.inner.Order.{HasNoSort, LastGoes}
 use Rattle.bt_run.specs.inner.Steps.{run_shown}
-use Rattle.bt_run.specs.inner.Unseen.{IsStyledBy}
+use Rattle.bt_run.specs.inner.Change.{IsStyledBy}
 use Rattle.bt_run.specs.inner.Walk.{AreOrdered, HasOrder, IsWalkedOut, with_steps}
 use Rattle.bt_run.proofs.AnswerLemmas.{kept_text}
 use Rattle.bt_run.proofs.BesideFilesLemmas.{meaning_now, steps_before, trace_now}
@@ -40,9 +41,9 @@ own_work : (p : Program) (text : List ℕ) (ss us : List Step) (b : Bool) → st
 own_work p text ss us true read same = ap (λ q. styled_work q ss us) read
 own_work p text ss us false read same = absurd cc
 
--- Both texts of files have the same citations and the same style, and READ finds one entry otherwise.
+-- Both texts of files have the same citations and the same style, and READ finds one entry changed.
 module _ (was files : List File) (root : List ℕ) (min : ℕ) (c : Citations) (name : List ℕ) (p : Program) (cited_was : c ≡ citations was root) (cited : c ≡ citations files root) (named : c.style ≡ Some name) (styled : IsStyledBy was files name p)
-    (law : DependsOnInput p) (n : ℕ) (key : List ℕ) (d : FoundEntry) (number : ℕ) (only : IsOnlyRead number p.commands) (found : FindsOther n key d (found_for (job_for was c min name p) number) (found_for (job_for files c min name p) number) p) where
+    (law : DependsOnInput p) (n : ℕ) (key : List ℕ) (d : FoundEntry) (number : ℕ) (only : IsOnlyRead number p.commands) (found : FindsChanged n key d (found_for (job_for was c min name p) number) (found_for (job_for files c min name p) number) p) where
   abbrev job : Job
   job = job_for was c min name p
 
@@ -52,12 +53,11 @@ module _ (was files : List File) (root : List ℕ) (min : ℕ) (c : Citations) (
   abbrev text : List ℕ
   text = text_in files name
 
-  -- what the run beside has otherwise from its beginning
-  abbrev first : Other
-  first = record { entry = with_blank_variables p d; globals = first_globals p; held = [] }
+  abbrev first : Difference
+  first = first_of p (with_blank_variables p d)
 
   -- The steps of the run before are kept, and the walk passed them all.
-  module _ (ss : List Step) (traced : ss ≡ trace was root min) (all : All (IsStep p) ss) (w : Walk) (walked : IsWalkedOut p key first ss w) (ordered : AreOrdered p key first ss number (length ss) w) (sorted : HasNoSort p.commands w.sorted (length p.commands)) (goes : LastGoes ss) where
+  module _ (ss : List Step) (traced : ss ≡ trace was root min) (all : All (IsStep p) ss) (w : Walk) (walked : IsWalkedOut p key first ss w) (ordered : AreOrdered p key first ss number (length ss) w) (sorted : HasNoSort p.commands w.last_command (length p.commands)) (goes : LastGoes ss) where
     abbrev us : List Step
     us = with_steps ss w.steps
 
@@ -72,7 +72,7 @@ module _ (was files : List File) (root : List ℕ) (min : ℕ) (c : Citations) (
     sorts : (k : ℕ) (e : Command) → number < k → slice_get p.commands k ≡ Some e → e.action ≡ Sort → SortsAt job c.log n key k first us
     sorts k e after at sorts_it =
         let within : k < length p.commands = slice_get_within p.commands k e at in
-        elim (cases_lt k w.sorted) [
+        elim (cases_lt k w.last_command) [
           | inl less ↦
               sorts_at job law n key files d number only found c.log (run_goes_on job c.log (subst LastGoes kept goes)) (subst (All (IsStep p)) kept all) first us (length ss) k after
               (subst (λ (xs : List Step). HasOrder p key first xs us (length ss) k) kept (ordered.each k e after less at sorts_it)) (omega (arith, within))

@@ -10,11 +10,13 @@ pub mod Asked
 pub mod Alike
 pub mod Found
 pub mod Unseen
-pub mod OtherEntry
-pub mod RunBeside
+pub mod Change
+pub mod ChangedEntry
+pub mod Follow
 pub mod Work
 pub mod Beside
-pub mod Order
+pub mod SortOrder
+pub mod WalkContext
 pub mod Put
 pub mod Walk
 pub mod BodySet

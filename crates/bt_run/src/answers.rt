@@ -70,7 +70,7 @@ impl Answers {
 pub struct Report {
     /// The status of the run: 0 clean, 1 warnings, 2 errors, 3 a fatal error.
     pub status: u8,
-    /// How many steps ran.
+    /// How many steps agree with none of the earlier run, and so had to run.
     pub ran: u64,
     /// How many steps were reused from an earlier run.
     pub reused: u64,
@@ -233,6 +233,7 @@ pub fn show(
 pub struct Run {
     pub answers: Answers,
     pub kept: Kept,
+    /// What the run took. `follow` leaves it as it was.
     pub report: Report,
 }
 
@@ -280,7 +281,8 @@ fn run_from(
         log,
         ..
     } = course;
-    let written = bbl_of(alloc, steps.steps.as_slice(), before.kept.written)?;
+    let before = before.kept.lengths.as_slice();
+    let written = bbl_of(alloc, steps.steps.as_slice(), before)?;
     let Written { bbl, lengths } = written;
     let answers = show(alloc, bbl, log, wanted)?;
     let report = Report::of(answers.status, steps.steps.as_slice(), &steps.reuse);
@@ -335,7 +337,6 @@ impl Ran {
             resolution,
             is_own,
             is_present: false,
-            written: answers.bbl.len(),
             lengths,
             readings,
         };

@@ -7,7 +7,7 @@ ghost use Rattle.bt_run.specs.inner.Walk.{AreNumbered, with_steps};
 
 use crate::course::Step;
 use crate::kept::Kept;
-use crate::walk::OtherStep;
+use crate::walk::NewStep;
 use bt_text::{Bytes, Sequence, Shared};
 use std::alloc::{AllocError, Global};
 
@@ -63,12 +63,25 @@ fn push_step(text: &mut Vec<u8>, lengths: &mut Vec<usize>, step: &Step) -> Resul
     Ok(())
 }
 
-/// What steps have written. The previous run wrote `before` bytes, so this makes room for as many at once.
-pub fn bbl_of(alloc: Global, steps: &[Shared<Step>], before: usize) -> Result<Written, AllocError>
+fn sum_of(lengths: &[usize]) -> usize {
+    let mut sum: usize = 0;
+    'lengths: for length in lengths {
+        sum = sum.saturating_add(*length);
+    }
+    sum
+}
+
+/// What steps have written. The steps of the previous run wrote parts of the lengths `before`, so this makes room for as
+/// many bytes at once.
+pub fn bbl_of(
+    alloc: Global,
+    steps: &[Shared<Step>],
+    before: &[usize],
+) -> Result<Written, AllocError>
     ensures bbl { IfOk result (λ written. written.bbl ≡ bbl_of steps.now) }
     ensures lengths { IfOk result (λ written. written.lengths ≡ map bytes_written steps.now) }
 {
-    let mut bbl = Vec::with_capacity(alloc, before)?;
+    let mut bbl = Vec::with_capacity(alloc, sum_of(before))?;
     let mut lengths = Vec::with_capacity(alloc, steps.len())?;
     'steps: for step in steps {
         push_step(&mut bbl, &mut lengths, step)?;
@@ -79,7 +92,8 @@ pub fn bbl_of(alloc: Global, steps: &[Shared<Step>], before: usize) -> Result<Wr
     })
 }
 
-/// Where lines end that begin here, in a text of this length, by the lengths of their steps.
+/// The end of the part of a text that begins here and consists of parts of these lengths. The text's length, `len`, is for
+/// the proof alone: so the sum can't overflow.
 fn end_of(begin: usize, lengths: &[usize], len: usize) -> usize
     requires { begin + sum lengths.now ≤ len }
     ensures { result ≡ begin + sum lengths.now }
@@ -91,8 +105,8 @@ fn end_of(begin: usize, lengths: &[usize], len: usize) -> usize
     end
 }
 
-/// How many bytes more a bibliography may need with these steps.
-fn room_for(steps: &[OtherStep]) -> usize {
+/// How many bytes the re-made steps write.
+fn room_for(steps: &[NewStep]) -> usize {
     let mut room: usize = 0;
     'steps: for step in steps {
         room = room.saturating_add(step.length);
@@ -100,12 +114,12 @@ fn room_for(steps: &[OtherStep]) -> usize {
     room
 }
 
-/// The bibliography of a run beside this one, which wrote the old one, with other steps in the place of some.
-pub fn bbl_beside(
+/// The new run's bibliography: the old one, with what these steps write in the place of what the old steps wrote.
+pub fn new_bbl(
     alloc: Global,
     old: &[u8],
     kept: &Kept,
-    others: &[OtherStep],
+    others: &[NewStep],
 ) -> Result<Bytes, AllocError>
     requires old { old.now ≡ bbl_of kept.now.steps }
     requires numbered { AreNumbered 0 (length kept.now.steps) others.now }

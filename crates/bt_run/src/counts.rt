@@ -19,6 +19,9 @@ use std::alloc::{AllocError, Global};
 /// How often each built-in function was called in some steps together, by its place in the table.
 pub type Calls = [u64; BUILTIN_COUNT];
 
+/// The lines that `tell_counts` adds: the total, and one for each function.
+pub const COUNT_LINES: usize = BUILTIN_COUNT + 1;
+
 /// Adds how often a step called each.
 pub fn add_calls(sums: &mut Calls, calls: &[u32; BUILTIN_COUNT]) -> Result<(), AllocError>
     ensures { OnOk result ((place : ℕ) → place < 37 →

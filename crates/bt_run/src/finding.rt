@@ -79,7 +79,7 @@ fn find_anew(
     ensures { OnOk result (IsKept kept.new (question_of asking)) }
 {
     let databases = all_items(alloc, asking.texts.as_slice(), kept)?;
-    let found = KeptResolution::of(alloc, asking, databases, kept)?;
+    let found = KeptResolution::of(alloc, asking, databases, kept.take())?;
     drop(kept.replace(found));
     Ok(())
 }

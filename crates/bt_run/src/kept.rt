@@ -37,12 +37,10 @@ pub struct Kept {
     pub resolution: Option<KeptResolution>,
     /// Whether READ found it in this run.
     pub is_own: bool,
-    /// Whether its databases are known to have the texts of the files of this run. Nobody asks before an edit that may
-    /// leave the run as it is.
+    /// Whether its databases are known to have the texts of the files of this run. Found out at the first edit that
+    /// `Run::follow` could do, because it compares all texts.
     pub is_present: bool,
-    /// The length of its bibliography, for which the next run makes room.
-    pub written: usize,
-    /// How many bytes of it each step wrote.
+    /// How many bytes of the bibliography each step wrote.
     pub lengths: Sequence<usize>,
     /// What was read of other files than databases.
     pub readings: Readings,
@@ -72,7 +70,6 @@ impl Kept {
             resolution: None,
             is_own: false,
             is_present: false,
-            written: 0,
             lengths: Sequence::new(alloc),
             readings: Readings::nothing(alloc),
         }

@@ -8,7 +8,7 @@
 //! What is kept is right about its own question, whatever the session's state is. So an edit that fails may leave it out
 //! or leave one about another state: the next run compares the questions.
 
-ghost use Rattle.std.specs.Prelude.{◌≡◌, ◌≤◌, None, length, map, slice_set, IfOk, IfSome, IsTrue};
+ghost use Rattle.std.specs.Prelude.{◌≡◌, ◌≤◌, None, length, map, IfOk, IfSome, IsTrue};
 ghost use Rattle.std.specs.Option.{ForSome};
 ghost use Rattle.std.proofs.Props.{props};
 ghost use Rattle.bt_bib.specs.BibText.{pieces_of};
@@ -18,7 +18,7 @@ ghost use Rattle.bt_resolve.specs.inner.Earlier.{AreEdited};
 ghost use Rattle.bt_resolve.specs.inner.Kept.{resolved_for};
 ghost use Rattle.bt_run.specs.inner.Alike.{IsAlike, is_known};
 ghost use Rattle.bt_run.specs.inner.Asked.{question_of, with_databases};
-ghost use Rattle.bt_run.specs.inner.Edits.{IsAlikeAfter, IsAmong, IsEditIn, KeepsPieces, Makes, kept_prop, within_prop};
+ghost use Rattle.bt_run.specs.inner.Edits.{IsAlikeAfter, IsAmong, IsEditIn, KeepsPieces, Makes, edited_question, kept_prop, within_prop};
 
 use crate::alike::Alike;
 use crate::asking::{Asking, is_same_declared};
@@ -41,10 +41,10 @@ pub struct KeptResolution {
     ghost kept: { ForSome edit (KeepsPieces resolution) } by { Prim.hlevel (props, kept_prop) },
 }
 
-/// The resolution of a question about these texts. It begins with an earlier one, if that is of use.
+/// The resolution of a question about these texts. It begins with an earlier one. If that is of no use, it is dropped first.
 fn resolution_after(
     alloc: Global,
-    earlier: &Option<KeptResolution>,
+    earlier: Option<KeptResolution>,
     texts: &[Shared<Bytes>],
     question: Question,
 ) -> Result<Resolution, AllocError>
@@ -57,12 +57,16 @@ fn resolution_after(
         return Resolution::of(alloc, question);
     };
     let Some(edited) = earlier.edited_database(texts) else {
+        drop(earlier);
         return Resolution::of(alloc, question);
     };
     if !is_same_declared(&question.declared, &earlier.resolution.question().declared) {
+        drop(earlier);
         return Resolution::of(alloc, question);
     }
-    earlier.resolution.after(alloc, question, edited)
+    let found = earlier.resolution.after(alloc, question, edited);
+    drop(earlier);
+    found
 }
 
 impl KeptResolution {
@@ -71,7 +75,7 @@ impl KeptResolution {
         alloc: Global,
         asking: Asking,
         databases: Sequence<Shared<Items>>,
-        earlier: &Option<KeptResolution>,
+        earlier: Option<KeptResolution>,
     ) -> Result<KeptResolution, AllocError>
         requires fields { IsTrue (are_apart asking.declared.fields) }
         requires star { IfSome asking.cites.star (λ before. before ≤ length asking.cites.keys) }
@@ -187,12 +191,15 @@ impl KeptResolution {
         edit.makes(self.texts.as_slice(), texts)
     }
 
-    /// Which database these texts have edited: none if all texts are the same. `None` if more may have changed.
-    fn edited_database(&self, texts: &[Shared<Bytes>]) -> Option<Option<EditedDatabase>>
+    /// Which database these texts have edited, if all others are the same.
+    fn edited_database(&self, texts: &[Shared<Bytes>]) -> Option<EditedDatabase>
         ensures { IfSome result (λ edited. AreEdited self.now.resolution edited (map pieces_of texts.now)) }
     {
         if are_same(self.texts.as_slice(), texts) {
-            return Some(None);
+            return Some(EditedDatabase {
+                number: 0,
+                kept: KeptPieces::all(),
+            });
         }
         let Some(edit) = &self.edit else {
             return None;
@@ -200,18 +207,17 @@ impl KeptResolution {
         if !edit.makes(self.texts.as_slice(), texts) {
             return None;
         }
-        Some(Some(EditedDatabase {
+        Some(EditedDatabase {
             number: edit.number,
             kept: edit.kept,
-        }))
+        })
     }
 
     /// Puts what the edit made in the place of what was found, if it made something. It can't fail.
     pub fn put(&mut self)
-        ensures resolution { ForSome self.old.edit (λ edit. ForSome edit.made (λ made. self.new.resolution
-            ≡ with_databases (map pieces_of (slice_set self.old.texts edit.number edit.text)) self.old.resolution)) }
-        ensures texts { ForSome self.old.edit (λ edit. ForSome edit.made (λ made.
-            self.new.texts ≡ slice_set self.old.texts edit.number edit.text)) }
+        ensures resolution { ForSome self.old.edit (λ edit. ForSome edit.made (λ made.
+            self.new.resolution ≡ edited_question self.old.resolution self.old.texts edit)) }
+        ensures texts { ForSome self.old.edit (λ edit. ForSome edit.made (λ made. Makes self.old.texts self.new.texts edit)) }
     {
         let Some(edit) = self.edit.take() else {
             return;
@@ -251,11 +257,8 @@ impl KeptResolution {
         ensures alike { IfOk result (λ alike.
             IsAlike alike (resolved_for self.old.resolution) (resolved_for self.new.resolution)) }
     {
-        if self.is_edited(texts) {
-            let alike = self.alike()?;
-            if !alike.is_known() {
-                return Ok(alike);
-            }
+        let alike = self.alike()?;
+        if alike.is_known() && self.is_edited(texts) {
             self.put();
             return Ok(alike);
         }

@@ -1,55 +1,50 @@
-//! A run that takes the place of the one beside it.
+//! How the new run takes the place of the old one.
 //!
-//! What it shows is made first, beside the old answers. Then what is kept goes over to it, which can't fail.
+//! What it shows is made first, beside the old answers. Then what is kept is changed in place, which can't fail.
 
 ghost use Rattle.std.specs.Prelude.{◌≡◌, ◌++◌, ℕ, List, length, IfOk};
 ghost use Rattle.bt_log.specs.declared.message.Message.{Message as MessageSeen};
-ghost use Rattle.bt_run.specs.Counts.{calls_at, counts_told};
-ghost use Rattle.bt_run.specs.Shown.{meaning_of};
+ghost use Rattle.bt_run.specs.Counts.{counts_told};
 ghost use Rattle.bt_run.specs.inner.Calls.{AreCalls};
-ghost use Rattle.bt_run.specs.inner.Cases.{bbl_of, shown_of};
-ghost use Rattle.bt_run.specs.inner.Put.{GoesOver, IsPutBeside, with_lengths};
+ghost use Rattle.bt_run.specs.inner.Cases.{bbl_of};
+ghost use Rattle.bt_run.specs.inner.Put.{AreShown, GoesOver, IsPutBeside, with_lengths};
 ghost use Rattle.bt_run.specs.inner.Steps.{calls_in};
 ghost use Rattle.bt_run.specs.inner.Walk.{AreNumbered, with_steps};
 
 use crate::answers::{Answers, Run, show};
-use crate::bibliography::bbl_beside;
-use crate::counts::{Calls, tell_counts};
+use crate::bibliography::new_bbl;
+use crate::counts::{COUNT_LINES, Calls, tell_counts};
 use crate::course::Step;
 use crate::declarations::copied_texts;
 use crate::kept::Kept;
 use crate::kept_resolution::KeptResolution;
 use crate::start::shared_messages;
-use crate::walk::{OtherStep, Walk};
+use crate::walk::{NewStep, Walk};
 use bt_log::Message;
-use bt_style::BUILTIN_COUNT;
 use bt_text::{Sequence, Shared};
 use std::alloc::{AllocError, Global};
 
-/// The log of a run whose steps made these calls, from one whose steps made others.
+/// The new run's log, from the old one and the new calls.
 fn log_with(alloc: Global, log: &[Message], calls: &Calls) -> Result<Sequence<Message>, AllocError>
     ensures { IfOk result (λ told. (before : List MessageSeen) (was : ℕ → ℕ) → log.now ≡ before ++ counts_told was →
         told ≡ before ++ counts_told (calls_in calls.now)) }
 {
-    let before = log.len().saturating_sub(BUILTIN_COUNT + 1);
+    let before = log.len().saturating_sub(COUNT_LINES);
     let mut told = shared_messages(alloc, &log[..before])?;
     tell_counts(alloc, &mut told, calls)?;
     Ok(told)
 }
 
 impl Run {
-    /// What the run beside this one shows.
-    pub(crate) fn answers_beside(&self, alloc: Global, walk: &Walk) -> Result<Answers, AllocError>
+    /// What the new run shows.
+    pub(crate) fn new_answers(&self, alloc: Global, walk: &Walk) -> Result<Answers, AllocError>
         requires bbl { self.now.answers.bbl ≡ bbl_of self.now.kept.steps }
         requires numbered { AreNumbered 0 (length self.now.kept.steps) walk.now.steps }
         requires calls { AreCalls (with_steps self.now.kept.steps walk.now.steps) walk.now.calls }
-        ensures { IfOk result (λ answers. (before : List MessageSeen) (was : ℕ → ℕ) →
-            self.now.answers.messages ≡ before ++ counts_told was →
-            meaning_of answers ≡ shown_of (bbl_of (with_steps self.now.kept.steps walk.now.steps))
-            (before ++ counts_told (calls_at (with_steps self.now.kept.steps walk.now.steps))) self.now.answers.wanted) }
+        ensures { IfOk result (AreShown self.now walk.now) }
     {
         let others = walk.steps.as_slice();
-        let bbl = bbl_beside(alloc, self.answers.bbl.as_slice(), &self.kept, others)?;
+        let bbl = new_bbl(alloc, self.answers.bbl.as_slice(), &self.kept, others)?;
         let log = log_with(alloc, self.answers.messages.as_slice(), &walk.calls)?;
         let wanted = copied_texts(alloc, self.answers.wanted.as_slice())?;
         let answers = show(alloc, bbl, log, wanted)?;
@@ -57,7 +52,7 @@ impl Run {
     }
 }
 
-fn put_lengths(lengths: &mut Sequence<usize>, others: &[OtherStep])
+fn put_lengths(lengths: &mut Sequence<usize>, others: &[NewStep])
     ensures { lengths.new ≡ with_lengths lengths.old others.now }
 {
     'others: for other in others {
@@ -67,20 +62,20 @@ fn put_lengths(lengths: &mut Sequence<usize>, others: &[OtherStep])
     }
 }
 
-/// Puts steps in the place of those of their numbers.
+/// Puts re-made steps in the place of the old ones.
 #[tactic(auto, using(crate::proofs::PutLemmas::put_more, crate::proofs::PutLemmas::put_beyond))]
-fn put_steps(steps: &mut Sequence<Shared<Step>>, others: Sequence<OtherStep>)
+fn put_steps(steps: &mut Sequence<Shared<Step>>, others: Sequence<NewStep>)
     ensures { steps.new ≡ with_steps steps.old others }
 {
     'others: for other in others.into_vec() {
-        let OtherStep { number, step, .. } = other;
+        let NewStep { number, step, .. } = other;
         if number < steps.len() {
             steps.set(number, step);
         }
     }
 }
 
-/// What READ finds after the edit that is kept.
+/// The kept resolution, with its edit made.
 #[tactic(auto, using(crate::proofs::PutKeptLemmas::goes_none))]
 fn after_edit(resolution: Option<KeptResolution>) -> Option<KeptResolution>
     ensures { GoesOver resolution result }
@@ -95,8 +90,8 @@ fn after_edit(resolution: Option<KeptResolution>) -> Option<KeptResolution>
 }
 
 impl Kept {
-    /// Goes over to the run beside it, whose bibliography has this length.
-    pub(crate) fn go_beside(&mut self, place: usize, walk: Walk, written: usize)
+    /// Becomes what is kept of the new run.
+    pub(crate) fn put(&mut self, place: usize, walk: Walk)
         requires { IsPutBeside self.old place walk }
         ensures text { self.new.text ≡ self.old.text }
         ensures steps { self.new.steps ≡ with_steps self.old.steps walk.steps }
@@ -113,7 +108,6 @@ impl Kept {
         put_steps(&mut self.steps, steps);
         self.entries.set(place, entry);
         self.calls = Some(calls);
-        self.written = written;
         let resolution = self.resolution.take();
         self.resolution = after_edit(resolution);
     }

@@ -1,4 +1,4 @@
-//! Whether what READ says stays the same.
+//! Whether two lists of messages are the same, of READ or of a step.
 
 ghost use Rattle.std.specs.Prelude.{◌≡◌, IsTrue};
 
@@ -16,7 +16,7 @@ fn is_same_text(one: &Option<Shared<Bytes>>, other: &Option<Shared<Bytes>>) -> b
     }
 }
 
-/// Whether two messages say the same words. (READ says nothing of files.)
+/// Whether two messages say the same words. (Neither READ nor a step says anything of files.)
 fn is_same_said(one: &Said, other: &Said) -> bool
     ensures { IsTrue result → one.now ≡ other.now }
 {
@@ -26,7 +26,7 @@ fn is_same_said(one: &Said, other: &Said) -> bool
     }
 }
 
-/// Whether two places are the same line of a database. (READ knows no other places.)
+/// Whether two places are the same line of a database. (READ gives only such places, and a step none.)
 fn is_same_line(one: &Place, other: &Place) -> bool
     ensures { IsTrue result → one.now ≡ other.now }
 {
@@ -67,7 +67,7 @@ fn is_same_message(one: &Message, other: &Message) -> bool
         && is_same_text(&one.second, &other.second)
 }
 
-/// Whether two lists of messages of READ are the same.
+/// Whether two lists of messages of READ or of a step are the same.
 pub fn are_same_messages(messages: &[Message], others: &[Message]) -> bool
     ensures { IsTrue result → messages.now ≡ others.now }
 {

@@ -1,10 +1,15 @@
-//! The steps of a run in which READ finds one entry otherwise, beside those of the run before.
+//! The steps of the new run, after an edit that changes one entry for READ.
 //!
-//! A step sees no entry but its own. So the steps for this entry are made again, and those for others only while the
-//! global variables or the output buffer aren't what they were given before. All other steps stay, and nobody looks at
-//! them: whose step is next is known from the places beside the steps.
+//! A step sees no entry but its own. So the walk goes over the old run's steps in order and re-makes only those for the
+//! changed entry, and those for other entries as long as the globals or the held line differ from what the old step was
+//! given. A re-made step is an old one that agrees, or else it runs. All other steps stay: of each, the walk reads only the
+//! place in its mark.
 //!
-//! SORT must give the old order. It does if the entry's sort key is the old one, or comes between those of its neighbours.
+//! The walk gives up, and a whole run begins, if a re-made step gives other messages or stops the run, if one for another
+//! entry leaves other variables, if SORT may give another order (`sort_order.rt`), or after 16 scans for a step that
+//! agrees: a whole run makes an index for that. So a walk runs at most 16 steps.
+//!
+//! In what follows, `own` says that a step is for the changed entry.
 
 ghost use Rattle.std.specs.Prelude.{◌≡◌, ◌+◌, ◌<◌, ◌^◌, [], true, false, All, IfOk, IfSome, IsTrue, OnOk, Some, length, slice_get, if◌then◌else◌};
 ghost use Rattle.std.specs.Option.{ForSome};
@@ -12,11 +17,10 @@ ghost use Rattle.bt_log.specs.Log.{lines_bytes};
 ghost use Rattle.bt_style.specs.Program.{program_of};
 ghost use Rattle.bt_run.specs.declared.course.Step.{Step as StepSeen};
 ghost use Rattle.bt_run.specs.Meaning.{first_globals};
-ghost use Rattle.bt_run.specs.inner.Beside.{is_for};
+ghost use Rattle.bt_run.specs.inner.Beside.{MayLeave, is_for};
 ghost use Rattle.bt_run.specs.inner.Course.{with_variables};
 ghost use Rattle.bt_run.specs.inner.Index.{IsIndex};
-ghost use Rattle.bt_run.specs.inner.Order.{HasNoSort, LastGoes};
-ghost use Rattle.bt_run.specs.inner.Walk.{AreOrderedIn, GiveAlike, IsAgain, IsNoted, IsPutAt, IsWalkedIn, MayLeave, given_to};
+ghost use Rattle.bt_run.specs.inner.Walk.{AreOrderedIn, GiveAlike, IsAgain, IsNoted, IsPutAt, IsWalkThroughIn, IsWalkedIn, given_to};
 ghost use Rattle.bt_run.specs.inner.Work.{IsKnown, IsNext};
 
 use crate::counts::Calls;
@@ -25,37 +29,38 @@ use crate::known_calls::exchange_calls;
 use crate::reuse::Reuse;
 use crate::reused_step::{Done, SCANS, StepToTake};
 use crate::same_messages::are_same_messages;
-use crate::seat::Seat;
+use crate::walk_context::WalkContext;
 use bt_actions::{Entry, Variables};
 use bt_machine::{Input, Outcome, equal_variables};
 use bt_text::{Bytes, Held, Sequence, Shared, equal_bytes};
 use std::alloc::{AllocError, Global};
 
-/// A step in the place of the old one of this number.
+/// A re-made step, in the place of the old one of this number.
 #[derive(Drop)]
-pub struct OtherStep {
+pub struct NewStep {
     pub number: usize,
     pub step: Shared<Step>,
     /// How many bytes it writes.
     pub length: usize,
 }
 
-/// How far the run beside the old one has come.
+/// The new run so far.
 #[derive(Drop)]
 pub struct Walk {
-    /// The entry as its last step left it.
+    /// The changed entry as its last step left it.
     pub entry: Entry,
-    /// Whether the next old step was given the globals and the held line that it is given now.
+    /// Whether the next step is given the globals and the held line that the old one was given.
     pub in_step: bool,
-    /// The globals and the held line, where it wasn't.
+    /// The globals and the held line that it is given, if not.
     pub globals: Shared<Variables>,
     pub held: Held,
-    pub steps: Sequence<OtherStep>,
-    /// How often the first steps, and the old ones after them, called each built-in function.
+    pub steps: Sequence<NewStep>,
+    /// How often the steps so far, and the old ones behind them, called each built-in function.
     pub calls: Calls,
     pub reuse: Reuse,
-    /// The command of the last step for the entry, or READ: each SORT before it gave the old order.
-    pub sorted: usize,
+    /// The command of the last step for the changed entry, or READ if there was none. Each SORT before it leaves the old
+    /// order.
+    pub last_command: usize,
 }
 
 fn are_equal(one: &Option<Shared<Variables>>, other: &Option<Shared<Variables>>) -> bool
@@ -68,7 +73,8 @@ fn are_equal(one: &Option<Shared<Variables>>, other: &Option<Shared<Variables>>)
     }
 }
 
-/// Whether a step for the entry, or for another one, may leave this where the old one left that.
+/// Whether a re-made step may replace the old one: same messages, same stop, and, if it is for another entry, the same
+/// variables.
 fn may_leave(left: &Outcome, old: &Outcome, own: bool) -> bool
     ensures { IsTrue result → MayLeave own left.now old.now }
 {
@@ -77,7 +83,7 @@ fn may_leave(left: &Outcome, old: &Outcome, own: bool) -> bool
         && (own || are_equal(&left.variables, &old.variables))
 }
 
-/// Whether an outcome gives the next step what another gives it.
+/// Whether the next step is given the same after both.
 fn give_alike(left: &Outcome, old: &Outcome) -> bool
     ensures { IsTrue result → GiveAlike left.now old.now }
 {
@@ -123,25 +129,25 @@ fn share_if_any(entry: &Option<Entry>) -> Result<Option<Entry>, AllocError>
 
 impl Walk {
     /// At the first step. None if the calls of the old steps aren't known.
-    pub fn begun(seat: Seat<'_>, globals: Variables) -> Result<Option<Walk>, AllocError>
-        requires { globals ≡ first_globals (program_of seat.style.now) }
-        ensures walked { IfOk result (λ begun. IfSome begun (IsWalkedIn seat.entry 0)) }
-        ensures ordered { IfOk result (λ begun. IfSome begun (AreOrderedIn seat.entry 0)) }
+    pub fn begun(context: WalkContext<'_>, globals: Variables) -> Result<Option<Walk>, AllocError>
+        requires { globals ≡ first_globals (program_of context.style.now) }
+        ensures walked { IfOk result (λ begun. IfSome begun (IsWalkedIn context.entry 0)) }
+        ensures ordered { IfOk result (λ begun. IfSome begun (AreOrderedIn context.entry 0)) }
     {
-        let earlier = seat.earlier;
+        let earlier = context.earlier;
         let Some(calls) = earlier.calls else {
             return Ok(None);
         };
         let in_step = begins_alike(earlier.steps.as_slice(), &globals);
         Ok(Some(Walk {
-            entry: seat.first.share()?,
+            entry: context.first.share()?,
             in_step,
-            globals: Shared::new(seat.alloc, globals)?,
-            held: Held::new(seat.alloc),
-            steps: Sequence::new(seat.alloc),
+            globals: Shared::new(context.alloc, globals)?,
+            held: Held::new(context.alloc),
+            steps: Sequence::new(context.alloc),
             calls,
-            reuse: Reuse::begun(seat.alloc),
-            sorted: seat.read,
+            reuse: Reuse::begun(context.alloc),
+            last_command: context.read,
         }))
     }
 
@@ -154,7 +160,7 @@ impl Walk {
         share_if_any(old)
     }
 
-    /// What the next step is given, where the old one was given this.
+    /// The input of a re-made step, from the old step's.
     fn input(&self, alloc: Global, old: &Input, own: bool) -> Result<Input, AllocError>
         ensures { IfOk result (λ input. input ≡ given_to own self.now old.now) }
     {
@@ -177,42 +183,42 @@ impl Walk {
         })
     }
 
-    /// The step of this number again.
+    /// The re-made step of this number.
     fn step_again(
         &mut self,
-        seat: Seat<'_>,
+        context: WalkContext<'_>,
         number: usize,
         own: bool,
     ) -> Result<Shared<Step>, AllocError>
-        requires number { number < length seat.earlier.now.steps }
+        requires number { number < length context.earlier.now.steps }
         requires meter { self.old.reuse.meter + 1000000 < 2 ^ 128 }
         requires ran { self.old.reuse.ran + 1 < 2 ^ 128 }
-        requires known { All (IsKnown (program_of seat.style.now)) self.old.reuse.known }
-        requires indexed { ForSome self.old.reuse.lookup.index (IsIndex seat.earlier.now.steps) }
-        ensures again { IfOk result (λ t. (s : StepSeen) → slice_get seat.entry.earlier.now.steps number ≡ Some s →
+        requires known { All (IsKnown (program_of context.style.now)) self.old.reuse.known }
+        requires indexed { ForSome self.old.reuse.lookup.index (IsIndex context.earlier.now.steps) }
+        ensures again { IfOk result (λ t. (s : StepSeen) → slice_get context.entry.earlier.now.steps number ≡ Some s →
             IsAgain own self.old s t) }
-        ensures next { IfOk result (λ t. IsNext (program_of seat.entry.style.now) seat.entry.earlier.now.steps t
+        ensures next { IfOk result (λ t. IsNext (program_of context.entry.style.now) context.entry.earlier.now.steps t
             self.old.reuse self.new.reuse) }
         ensures rest { OnOk result (self.new ≡ record self.old { reuse = self.new.reuse }) }
     {
-        let earlier = seat.earlier;
+        let earlier = context.earlier;
         let old = &earlier.steps.as_slice()[number];
-        let input = self.input(seat.alloc, &old.input, own)?;
+        let input = self.input(context.alloc, &old.input, own)?;
         self.reuse.next = number;
         let next = StepToTake {
-            alloc: seat.alloc,
-            style: seat.style,
+            alloc: context.alloc,
+            style: context.style,
             earlier,
             command: old.command,
             input: &input,
         };
         let Done { outcome, cost } = next.take_over_or_carry_out(&mut self.reuse)?;
         let made = Step::of(old.command, input, outcome, cost)?;
-        let step = Shared::new(seat.alloc, made)?;
+        let step = Shared::new(context.alloc, made)?;
         Ok(step)
     }
 
-    /// Takes over what the next step is given after one that left this, where the old one left that.
+    /// Notes whether the next step is given what the old one was, and otherwise what.
     fn leave(&mut self, alloc: Global, left: &Outcome, old: &Outcome) -> Result<(), AllocError>
         ensures alike { OnOk result (IsTrue self.new.in_step → GiveAlike left.now old.now) }
         ensures globals { OnOk result (self.new.in_step ≡ false → self.new.globals ≡ left.now.globals) }
@@ -242,25 +248,25 @@ impl Walk {
         Ok(())
     }
 
-    /// Takes over what the step of this number left, made again.
+    /// Notes a re-made step: its calls, what it left, how much it wrote.
     fn note(
         &mut self,
-        seat: Seat<'_>,
+        context: WalkContext<'_>,
         number: usize,
         step: Shared<Step>,
         own: bool,
     ) -> Result<(), AllocError>
-        requires number { number < length seat.earlier.now.steps }
-        ensures { OnOk result ((s : StepSeen) → slice_get seat.entry.earlier.now.steps number ≡ Some s →
+        requires number { number < length context.earlier.now.steps }
+        ensures { OnOk result ((s : StepSeen) → slice_get context.entry.earlier.now.steps number ≡ Some s →
             IsNoted own number s step self.old self.new) }
     {
-        let old = &seat.earlier.steps.as_slice()[number].outcome;
+        let old = &context.earlier.steps.as_slice()[number].outcome;
         let left = &step.outcome;
         exchange_calls(&mut self.calls, &old.calls, &left.calls)?;
-        self.leave(seat.alloc, left, old)?;
+        self.leave(context.alloc, left, old)?;
         self.keep_variables(left, own)?;
         let length = length_of(left.lines.as_slice())?;
-        self.steps.push(OtherStep {
+        self.steps.push(NewStep {
             number,
             step,
             length,
@@ -268,50 +274,55 @@ impl Walk {
         Ok(())
     }
 
-    /// Makes the step of this number again. False if the log or another entry could tell the difference.
-    fn make(&mut self, seat: Seat<'_>, number: usize, own: bool) -> Result<bool, AllocError>
-        requires number { number < length seat.earlier.now.steps }
-        requires own { (s : StepSeen) → slice_get seat.earlier.now.steps number ≡ Some s → is_for seat.key.now s ≡ own }
-        requires walked { IsWalkedIn seat number self.old }
-        ensures walked { IfOk result (λ on. IsTrue on → IsWalkedIn seat.entry (number + 1) self.new) }
+    /// Re-makes a step. False if it may not replace the old one.
+    fn make(
+        &mut self,
+        context: WalkContext<'_>,
+        number: usize,
+        own: bool,
+    ) -> Result<bool, AllocError>
+        requires number { number < length context.earlier.now.steps }
+        requires own { (s : StepSeen) → slice_get context.earlier.now.steps number ≡ Some s → is_for context.key.now s ≡ own }
+        requires walked { IsWalkedIn context number self.old }
+        ensures walked { IfOk result (λ on. IsTrue on → IsWalkedIn context.entry (number + 1) self.new) }
         ensures put { IfOk result (λ on. IsTrue on → IsPutAt number self.old self.new) }
     {
-        let step = self.step_again(seat, number, own)?;
-        let old = &seat.earlier.steps.as_slice()[number];
+        let step = self.step_again(context, number, own)?;
+        let old = &context.earlier.steps.as_slice()[number];
         if !may_leave(&step.outcome, &old.outcome, own) {
             return Ok(false);
         }
-        self.note(seat, number, step, own)?;
+        self.note(context, number, step, own)?;
         Ok(true)
     }
 
-    /// Makes the step of this number again, which is for the entry.
-    fn make_own(&mut self, seat: Seat<'_>, number: usize) -> Result<bool, AllocError>
-        requires number { number < length seat.earlier.now.steps }
-        requires own { (s : StepSeen) → slice_get seat.earlier.now.steps number ≡ Some s → is_for seat.key.now s ≡ true }
-        requires walked { IsWalkedIn seat number self.old }
-        requires ordered { AreOrderedIn seat number self.old }
-        ensures walked { IfOk result (λ on. IsTrue on → IsWalkedIn seat.entry (number + 1) self.new) }
-        ensures ordered { IfOk result (λ on. IsTrue on → AreOrderedIn seat.entry (number + 1) self.new) }
+    /// Re-makes a step for the changed entry. False, too, if SORT may give another order.
+    fn make_own(&mut self, context: WalkContext<'_>, number: usize) -> Result<bool, AllocError>
+        requires number { number < length context.earlier.now.steps }
+        requires own { (s : StepSeen) → slice_get context.earlier.now.steps number ≡ Some s → is_for context.key.now s ≡ true }
+        requires walked { IsWalkedIn context number self.old }
+        requires ordered { AreOrderedIn context number self.old }
+        ensures walked { IfOk result (λ on. IsTrue on → IsWalkedIn context.entry (number + 1) self.new) }
+        ensures ordered { IfOk result (λ on. IsTrue on → AreOrderedIn context.entry (number + 1) self.new) }
     {
-        let command = seat.earlier.steps.as_slice()[number].command;
-        if !seat.keeps_order(number, &self.entry, self.sorted) {
+        let command = context.earlier.steps.as_slice()[number].command;
+        if !context.keeps_order(number, &self.entry, self.last_command) {
             return Ok(false);
         }
-        self.sorted = command;
-        let on = self.make(seat, number, true)?;
+        self.last_command = command;
+        let on = self.make(context, number, true)?;
         Ok(on)
     }
 
-    /// Passes the step of this number, or makes it again. False if the rest of the old run may not be beside this one.
-    fn pass(&mut self, seat: Seat<'_>, number: usize) -> Result<bool, AllocError>
-        requires number { number < length seat.earlier.now.steps }
-        requires walked { IsWalkedIn seat number self.old }
-        requires ordered { AreOrderedIn seat number self.old }
-        ensures walked { IfOk result (λ on. IsTrue on → IsWalkedIn seat.entry (number + 1) self.new) }
-        ensures ordered { IfOk result (λ on. IsTrue on → AreOrderedIn seat.entry (number + 1) self.new) }
+    /// Goes past a step, re-making it if need be. False if a whole run must begin.
+    fn pass(&mut self, context: WalkContext<'_>, number: usize) -> Result<bool, AllocError>
+        requires number { number < length context.earlier.now.steps }
+        requires walked { IsWalkedIn context number self.old }
+        requires ordered { AreOrderedIn context number self.old }
+        ensures walked { IfOk result (λ on. IsTrue on → IsWalkedIn context.entry (number + 1) self.new) }
+        ensures ordered { IfOk result (λ on. IsTrue on → AreOrderedIn context.entry (number + 1) self.new) }
     {
-        let Some(own) = seat.is_own(number) else {
+        let Some(own) = context.is_own(number) else {
             return Ok(false);
         };
         if self.in_step && !own {
@@ -321,28 +332,24 @@ impl Walk {
             return Ok(false);
         }
         if own {
-            return self.make_own(seat, number);
+            return self.make_own(context, number);
         }
-        let on = self.make(seat, number, false)?;
+        let on = self.make(context, number, false)?;
         Ok(on)
     }
 
-    /// Passes all steps. False if the old run may not be beside this one.
-    pub fn pass_all(&mut self, seat: Seat<'_>) -> Result<bool, AllocError>
-        requires walked { IsWalkedIn seat 0 self.old }
-        requires ordered { AreOrderedIn seat 0 self.old }
-        ensures walked { IfOk result (λ on. IsTrue on → IsWalkedIn seat.entry (length seat.entry.earlier.now.steps) self.new) }
-        ensures ordered { IfOk result (λ on. IsTrue on → AreOrderedIn seat.entry (length seat.entry.earlier.now.steps) self.new) }
-        ensures sorted { IfOk result (λ on. IsTrue on → HasNoSort (program_of seat.entry.style.now).commands self.new.sorted
-            (length (program_of seat.entry.style.now).commands)) }
-        ensures goes { IfOk result (λ on. IsTrue on → LastGoes seat.entry.earlier.now.steps) }
+    /// Goes past all steps. False if a whole run must begin.
+    pub fn pass_all(&mut self, context: WalkContext<'_>) -> Result<bool, AllocError>
+        requires walked { IsWalkedIn context 0 self.old }
+        requires ordered { AreOrderedIn context 0 self.old }
+        ensures { IfOk result (λ on. IsTrue on → IsWalkThroughIn context.entry self.new) }
     {
-        let count = seat.earlier.steps.len();
+        let count = context.earlier.steps.len();
         'steps: for number in 0..count {
-            if !self.pass(seat, number)? {
+            if !self.pass(context, number)? {
                 return Ok(false);
             }
         }
-        Ok(seat.has_no_sort_from(self.sorted) && seat.goes())
+        Ok(context.has_no_sort_from(self.last_command) && context.ran_to_its_end())
     }
 }

@@ -1,5 +1,5 @@
 -- How a splice changed a database, as it is kept until READ needs it.
-use Rattle.std.specs.Prelude.{◌≡◌, ℕ, List, Option, Some, slice_get, slice_set}
+use Rattle.std.specs.Prelude.{◌≡◌, ℕ, List, Option, Some, map, slice_get, slice_set}
 use Rattle.std.specs.Option.{ForSome}
 use Rattle.std.proofs.Props.{props}
 use Rattle.bt_bib.specs.BibText.{pieces_of}
@@ -14,6 +14,7 @@ use Rattle.bt_resolve.specs.inner.Kept.{IsResolvedEdit, IsWithin}
 use Rattle.bt_run.specs.declared.alike.Alike.{Alike}
 use Rattle.bt_run.specs.declared.database_edit.DatabaseEdit.{DatabaseEdit}
 use Rattle.bt_run.specs.inner.Alike.{alike_after}
+use Rattle.bt_run.specs.inner.Asked.{with_databases}
 
 -- A database of one of these texts, with its number and its items.
 pub record IsAmong (texts : List (List ℕ)) (text : List ℕ) (number : ℕ) (items : List PlacedPiece) : Type 0 where
@@ -47,3 +48,7 @@ pub record IsAlikeAfter (kept : Option DatabaseEdit) (alike : Alike) : Type 0 wh
 -- The edit makes these texts of others.
 abbrev pub Makes : List (List ℕ) → List (List ℕ) → DatabaseEdit → Type 0
 Makes texts others e = others ≡ slice_set texts e.number e.text
+
+-- The question about the texts that it makes.
+abbrev pub edited_question : Question → List (List ℕ) → DatabaseEdit → Question
+edited_question q texts e = with_databases (map pieces_of (slice_set texts e.number e.text)) q

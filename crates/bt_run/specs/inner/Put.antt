@@ -1,47 +1,61 @@
--- A run that takes the place of the one beside it.
-use Rattle.std.specs.Prelude.{◌≡◌, ◌<◌, ℕ, false, All, List, [], ◌∷◌, length, map, slice_set, bytes_eq, Ok, Option, Some}
+-- How the new run takes the place of the old one.
+use Rattle.std.specs.Prelude.{◌≡◌, ◌++◌, ◌<◌, ℕ, false, All, List, [], ◌∷◌, length, map, slice_set, bytes_eq, Ok, Option, Some}
 use Rattle.std.specs.Option.{ForSome, is_some}
 use Rattle.bt_style.specs.Program.{Program}
 use Rattle.bt_style.specs.Reader.{style_of}
 use Rattle.bt_bib.specs.BibText.{pieces_of}
+use Rattle.bt_log.specs.declared.message.Message.{Message}
 use Rattle.bt_resolve.specs.declared.entry.Entry.{Entry as FoundEntry}
+use Rattle.bt_run.specs.declared.answers.Answers.{Answers}
+use Rattle.bt_run.specs.declared.answers.Run.{Run}
 use Rattle.bt_run.specs.declared.kept.Kept.{Kept}
 use Rattle.bt_run.specs.declared.kept_resolution.KeptResolution.{KeptResolution}
-use Rattle.bt_run.specs.declared.walk.OtherStep.{OtherStep}
+use Rattle.bt_run.specs.declared.walk.NewStep.{NewStep}
 use Rattle.bt_run.specs.declared.walk.Walk.{Walk}
+use Rattle.bt_run.specs.Counts.{calls_at, counts_told}
 use Rattle.bt_run.specs.ReadCommand.{with_blank_variables}
+use Rattle.bt_run.specs.Shown.{meaning_of}
 use Rattle.bt_run.specs.Work.{IsStep}
 use Rattle.bt_run.specs.inner.Asked.{with_databases}
-use Rattle.bt_run.specs.inner.Beside.{HasKey, Other}
-use Rattle.bt_run.specs.inner.OtherEntry.{IsOtherEntry}
-use Rattle.bt_run.specs.inner.Walk.{IsWalkedOut}
+use Rattle.bt_run.specs.inner.Beside.{Difference, HasKey}
+use Rattle.bt_run.specs.inner.Cases.{bbl_of, shown_of}
+use Rattle.bt_run.specs.inner.ChangedEntry.{IsChangedEntry}
+use Rattle.bt_run.specs.inner.Walk.{IsWalkedOut, with_steps}
 
--- The lengths of what steps write, with those of others in the place of some.
-abbrev pub with_lengths : List ℕ → List OtherStep → List ℕ
+-- old lengths, with those of re-made steps in the place of some
+abbrev pub with_lengths : List ℕ → List NewStep → List ℕ
 with_lengths ns [] = ns
 with_lengths ns (o ∷ os) = with_lengths (slice_set ns o.number o.length) os
 
--- What the edit that is kept makes has taken the place of what was found, if it makes something.
+-- The kept edit is made.
 pub record IsEdited (was is : KeptResolution) : Type 0 where
   pub resolution : ForSome was.edit (λ edit. ForSome edit.made (λ made.
       is.resolution ≡ with_databases (map pieces_of (slice_set was.texts edit.number edit.text)) was.resolution))
   pub texts : ForSome was.edit (λ edit. ForSome edit.made (λ made. is.texts ≡ slice_set was.texts edit.number edit.text))
 
--- So it has, if something was found.
+-- The same, if there is a resolution.
 pub record GoesOver (was is : Option KeptResolution) : Type 0 where
   pub some : is_some is ≡ is_some was
   pub each : (k r : KeptResolution) → was ≡ Some k → is ≡ Some r → IsEdited k r
 
--- A walk is at the end of the steps that are kept, beside which it went for the entry at a place.
+-- A walk over all kept steps, for the changed entry at this place.
 pub record IsPutBeside (kept : Kept) (place : ℕ) (w : Walk) : Type 0 where
   pub p : Program
   pub d : FoundEntry
-  pub first : Other
+  pub first : Difference
   pub text : ForSome kept.text (λ t. style_of t ≡ Ok p)
   pub steps : All (IsStep p) kept.steps
   pub within : place < length kept.entries
   pub keyed : HasKey place d.key kept.entries
   pub some_key : bytes_eq [] d.key ≡ false
   pub begins : first.entry ≡ with_blank_variables p d
-  pub other : ForSome kept.resolution (λ k. IsOtherEntry k place d)
+  pub other : ForSome kept.resolution (λ k. IsChangedEntry k place d)
   pub walked : IsWalkedOut p d.key first kept.steps w
+
+-- what the new run shows: the log is the old one with the new counts
+abbrev pub AreShown : Run → Walk → Answers → Type 0
+AreShown run w answers =
+    (before : List Message) (was : ℕ → ℕ) → run.answers.messages ≡ before ++ counts_told was →
+    meaning_of answers
+    ≡ shown_of (bbl_of (with_steps run.kept.steps w.steps)) (before ++ counts_told (calls_at (with_steps run.kept.steps w.steps)))
+    run.answers.wanted

@@ -1,15 +1,12 @@
 -- An edit of which the style sees nothing.
-use Rattle.std.specs.Prelude.{◌≡◌, ◌==◌, ◌<◌, ℕ, false, IsTrue, [], bytes_eq, length, map, slice_index_or, List, Some, Ok, slice_get}
+use Rattle.std.specs.Prelude.{◌≡◌, ℕ, false, IsTrue, bytes_eq, map, List, Some, Ok, slice_get}
 use Rattle.std.specs.Option.{ForSome}
 use Rattle.bt_style.specs.declared.style.Action.TheVariants.{Read}
 use Rattle.bt_style.specs.Program.{Program}
 use Rattle.bt_style.specs.Reader.{style_of}
-use Rattle.bt_job.specs.declared.citations.Citations.{Citations}
 use Rattle.bt_job.specs.declared.files.File.{File}
 use Rattle.bt_job.specs.Citations.{citations}
-use Rattle.bt_resolve.specs.declared.declared.Declared.{Declared}
 use Rattle.bt_resolve.specs.declared.kept.ResolvedEdit.{ResolvedEdit}
-use Rattle.bt_resolve.specs.declared.question.Question.{Question}
 use Rattle.bt_resolve.specs.declared.seen_edit.SeenEdit.TheVariants.{Same}
 use Rattle.bt_resolve.specs.inner.Kept.{resolved_for}
 use Rattle.bt_run.specs.declared.answers.Run.{Run}
@@ -18,7 +15,7 @@ use Rattle.bt_run.specs.declared.kept.Kept.{Kept}
 use Rattle.bt_run.specs.declared.kept_resolution.KeptResolution.{KeptResolution}
 use Rattle.bt_run.specs.Kept.{style_text}
 use Rattle.bt_run.specs.Meaning.{meaning, trace}
-use Rattle.bt_run.specs.ReadCommand.{Job, declared_before, found_for}
+use Rattle.bt_run.specs.ReadCommand.{Job, found_for}
 use Rattle.bt_run.specs.Shown.{meaning_of}
 use Rattle.bt_run.specs.inner.Cases.{text_in}
 
@@ -30,22 +27,6 @@ pub record IsUnseen (k : KeptResolution) : Type 0 where
   pub is_made : edit.made ≡ Some made
   pub seen : made.seen ≡ Same
   pub messages : made.messages ≡ (resolved_for k.resolution).messages
-
--- READ, if it is the command of a number, declares this.
-abbrev pub DeclaresAt : Program → Declared → ℕ → Type 0
-DeclaresAt p declared k =
-    (line : ℕ) → slice_get p.commands k ≡ Some (record { action = Read; line = line }) → declared_before k p ≡ declared
-
--- Each READ of a style asks this, but perhaps of other databases.
-pub record AreAsked (q : Question) (c : Citations) (least : ℕ) (p : Program) : Type 0 where
-  pub cites : q.cites ≡ record { keys = c.keys; star = c.star }
-  pub min : q.min ≡ least
-  pub declared : (k : ℕ) → DeclaresAt p q.declared k
-
--- the style of a name in some files and in others
-pub record IsStyledBy (was files : List File) (name : List ℕ) (p : Program) : Type 0 where
-  pub same : text_in files name ≡ text_in was name
-  pub read : style_of (text_in files name) ≡ Ok p
 
 -- Each READ of a job finds the same in other files.
 abbrev pub FindTheSame : List File → Job → Type 0
@@ -82,8 +63,3 @@ AreTextsOf files root kept = IsTrue kept.is_present → ForSome kept.resolution 
 -- Files differ from others in the text of this name alone.
 abbrev pub AreOtherwise : List ℕ → List File → List File → Type 0
 AreOtherwise name was files = (n : List ℕ) → bytes_eq name n ≡ false → text_in files n ≡ text_in was n
-
--- A name stands at this number, and nowhere else.
-abbrev pub IsOnlyAt : List ℕ → ℕ → List (List ℕ) → Type 0
-IsOnlyAt name number names =
-    (k : ℕ) → k < length names → bytes_eq name (slice_index_or names k []) ≡ (k == number)

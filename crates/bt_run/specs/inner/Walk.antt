@@ -1,45 +1,45 @@
--- The steps of a run beside another, as far as they were made.
-use Rattle.std.specs.Prelude.{take, ◌≡◌, ◌++◌, ◌+◌, ◌<◌, ◌≤◌, ℕ, Bool, true, false, List, [], ◌∷◌, length, slice_get, slice_set, Some, if◌then◌else◌}
+-- The steps of the new run, as far as they were made.
+use Rattle.std.specs.Prelude.{take, ◌≡◌, ◌++◌, ◌+◌, ◌<◌, ◌≤◌, ℕ, Bool, true, false, List, [], ◌∷◌, length, slice_get, slice_set, bytes_eq, Some, if◌then◌else◌}
 use Rattle.bt_style.specs.declared.style.Action.TheVariants.{Sort}
 use Rattle.bt_style.specs.declared.style.Command.{Command}
 use Rattle.bt_style.specs.Program.{Program, program_of}
 use Rattle.bt_log.specs.Log.{lines_bytes}
 use Rattle.bt_machine.specs.declared.input.Input.{Input}
 use Rattle.bt_machine.specs.declared.outcome.Outcome.{Outcome}
+use Rattle.bt_resolve.specs.declared.entry.Entry.{Entry as FoundEntry}
+use Rattle.bt_resolve.specs.inner.Kept.{resolved_for}
 use Rattle.bt_run.specs.declared.course.Step.{Step}
-use Rattle.bt_run.specs.declared.seat.Seat.{Seat}
-use Rattle.bt_run.specs.declared.walk.OtherStep.{OtherStep}
+use Rattle.bt_run.specs.declared.kept.Kept.{Kept}
+use Rattle.bt_run.specs.declared.kept_resolution.KeptResolution.{KeptResolution}
+use Rattle.bt_run.specs.declared.walk_context.WalkContext.{WalkContext}
+use Rattle.bt_run.specs.declared.walk.NewStep.{NewStep}
 use Rattle.bt_run.specs.declared.walk.Walk.{Walk}
-use Rattle.bt_run.specs.Meaning.{first_globals}
+use Rattle.bt_run.specs.ReadCommand.{with_blank_variables}
 use Rattle.bt_run.specs.Work.{total_cost, work_under}
-use Rattle.bt_run.specs.inner.Beside.{AreBeside, AreUpTo, IsCountedUpTo, IsGivenAlike, IsSortAndIterate, Other, is_for}
+use Rattle.bt_run.specs.inner.Beside.{AreBeside, AreUpTo, Difference, HasKey, IsCountedUpTo, IsGivenAlike, first_of, is_for}
+use Rattle.bt_run.specs.inner.ChangedEntry.{IsChangedEntry}
+use Rattle.bt_run.specs.inner.SortOrder.{HasItsPlace, HasNoSort, IsSortAndIterate}
+use Rattle.bt_run.specs.inner.WalkContext.{IsOnlyRead, LastGoes}
 use Rattle.bt_run.specs.inner.Calls.{AreCalls, AreExchanged}
 use Rattle.bt_run.specs.inner.Course.{with_variables}
-use Rattle.bt_run.specs.inner.Order.{HasItsPlace}
 
--- steps with others in the place of some
-abbrev pub with_steps : List Step → List OtherStep → List Step
+-- old steps, with re-made ones in the place of some
+abbrev pub with_steps : List Step → List NewStep → List Step
 with_steps ss [] = ss
 with_steps ss (o ∷ os) = with_steps (slice_set ss o.number o.step) os
 
--- The numbers of steps rise, from one on and below another, and each has the length of what it writes.
-abbrev pub AreNumbered : ℕ → ℕ → List OtherStep → Type 0
+-- The numbers rise, from `from` on and below `end`. Each length is that of what the step writes.
+abbrev pub AreNumbered : ℕ → ℕ → List NewStep → Type 0
 AreNumbered from end [] = from ≤ end
 AreNumbered from end (o ∷ os) =
     (from ≤ o.number) × (o.length ≡ length (lines_bytes o.step.outcome.lines)) × AreNumbered (o.number + 1) end os
-
--- A step may leave this where the old one left that: the log can't tell the difference, nor can another entry.
-pub record MayLeave (own : Bool) (left old : Outcome) : Type 0 where
-  pub stop : left.stop ≡ old.stop
-  pub messages : left.messages ≡ old.messages
-  pub variables : own ≡ false → left.variables ≡ old.variables
 
 -- both give the next step the same
 pub record GiveAlike (left old : Outcome) : Type 0 where
   pub globals : left.globals ≡ old.globals
   pub held : left.held ≡ old.held
 
--- what is given to the next step where the old one was given this
+-- the input of a re-made step, from the old step's
 abbrev pub given_to : Bool → Walk → Input → Input
 given_to own w i = record i {
   entry = if own then Some w.entry else i.entry;
@@ -47,26 +47,26 @@ given_to own w i = record i {
   held = if w.in_step then i.held else w.held;
 }
 
--- what the run has otherwise before the step of a number
-pub record IsAt (ss : List Step) (k : ℕ) (w : Walk) (now : Other) : Type 0 where
+-- where the runs differ before the step of a number
+pub record IsAt (ss : List Step) (k : ℕ) (w : Walk) (now : Difference) : Type 0 where
   pub entry : now.entry ≡ w.entry
   pub alike : w.in_step ≡ true → (s : Step) → slice_get ss k ≡ Some s → IsGivenAlike now s
   pub globals : w.in_step ≡ false → now.globals ≡ w.globals
   pub held : w.in_step ≡ false → now.held ≡ w.held
 
--- The first steps are beside the old ones; they are counted, and so are the calls. Only of them were some made again.
-pub record IsWalked (p : Program) (key : List ℕ) (first : Other) (ss : List Step) (k : ℕ) (w : Walk) : Type 0 where
-  pub now : Other
+-- After `k` steps: the new steps so far are right and counted, with their calls, and no later one was replaced.
+pub record IsWalked (p : Program) (key : List ℕ) (first : Difference) (ss : List Step) (k : ℕ) (w : Walk) : Type 0 where
+  pub now : Difference
   pub at : IsAt ss k w now
   pub upto : AreUpTo p key first ss (with_steps ss w.steps) k now
   pub counted : IsCountedUpTo p ss (with_steps ss w.steps) k w.reuse
   pub called : AreCalls (with_steps ss w.steps) w.calls
   pub numbered : AreNumbered 0 k w.steps
 
--- All steps are.
-pub record IsWalkedOut (p : Program) (key : List ℕ) (first : Other) (ss : List Step) (w : Walk) : Type 0 where
+-- The same after all steps.
+pub record IsWalkedOut (p : Program) (key : List ℕ) (first : Difference) (ss : List Step) (w : Walk) : Type 0 where
   pub count : length (with_steps ss w.steps) ≡ length ss
-  pub last : Other
+  pub last : Difference
   pub entry : last.entry ≡ w.entry
   pub beside : AreBeside p key first ss (with_steps ss w.steps) last
   pub ran : w.reuse.ran ≡ length (work_under p ss (with_steps ss w.steps))
@@ -75,14 +75,14 @@ pub record IsWalkedOut (p : Program) (key : List ℕ) (first : Other) (ss : List
   pub calls : AreCalls (with_steps ss w.steps) w.calls
   pub numbered : AreNumbered 0 (length ss) w.steps
 
--- A step of this number was put behind those of a walk.
+-- A walk with one more step, of this number, and the same last command.
 pub record IsPutAt (k : ℕ) (w v : Walk) : Type 0 where
-  pub other : OtherStep
+  pub other : NewStep
   pub number : other.number ≡ k
   pub steps : v.steps ≡ w.steps ++ other ∷ []
-  pub sorted : v.sorted ≡ w.sorted
+  pub last : v.last_command ≡ w.last_command
 
--- a step was made again, and what it left was taken over
+-- a re-made step was noted, with what it left
 pub record IsNoted (own : Bool) (k : ℕ) (s t : Step) (w v : Walk) : Type 0 where
   pub long : ℕ
   pub lines : long ≡ length (lines_bytes t.outcome.lines)
@@ -93,28 +93,24 @@ pub record IsNoted (own : Bool) (k : ℕ) (s t : Step) (w v : Walk) : Type 0 whe
   pub held : v.in_step ≡ false → v.held ≡ t.outcome.held
   pub calls : AreExchanged w.calls v.calls s.outcome.calls t.outcome.calls
   pub reuse : v.reuse ≡ w.reuse
-  pub sorted : v.sorted ≡ w.sorted
+  pub last : v.last_command ≡ w.last_command
 
--- a step of the same command as another, made from what the run has now
+-- a re-made step, from what the new run has now
 pub record IsAgain (own : Bool) (w : Walk) (s t : Step) : Type 0 where
   pub command : t.command ≡ s.command
   pub input : t.input ≡ given_to own w s.input
 
--- what the run has otherwise from the beginning
-abbrev pub first_in : Seat → Other
-first_in seat = record { entry = seat.first.now; globals = first_globals (program_of seat.style.now); held = [] }
-
-abbrev pub IsWalkedIn : Seat → ℕ → Walk → Type 0
-IsWalkedIn seat k w =
-    IsWalked (program_of seat.style.now) seat.key.now (first_in seat) seat.earlier.now.steps k w
+abbrev pub IsWalkedIn : WalkContext → ℕ → Walk → Type 0
+IsWalkedIn context k w =
+    IsWalked (program_of context.style.now) context.key.now (first_of (program_of context.style.now) context.first.now) context.earlier.now.steps k w
 
 -- The order
 
--- What the walk finds of the SORT of a number: the next step for the entry says that it gives the old order.
-pub record HasOrder (p : Program) (key : List ℕ) (first : Other) (ss us : List Step) (k number : ℕ) : Type 0 where
+-- The SORT of a number leaves the old order, by the next step for the changed entry.
+pub record HasOrder (p : Program) (key : List ℕ) (first : Difference) (ss us : List Step) (k number : ℕ) : Type 0 where
   pub i : ℕ
   pub s : Step
-  pub now : Other
+  pub now : Difference
   pub early : i < k
   pub at : slice_get ss i ≡ Some s
   pub own : is_for key s ≡ true
@@ -123,12 +119,37 @@ pub record HasOrder (p : Program) (key : List ℕ) (first : Other) (ss us : List
   pub two : IsSortAndIterate p.commands number s.command
   pub keeps : HasItsPlace ss i s now.entry
 
--- Each SORT after READ and before `sorted` gives the old order, and no step for the entry is of a later command.
-pub record AreOrdered (p : Program) (key : List ℕ) (first : Other) (ss : List Step) (read k : ℕ) (w : Walk) : Type 0 where
-  pub above : (x : ℕ) (t : Step) → x < k → slice_get ss x ≡ Some t → is_for key t ≡ true → t.command ≤ w.sorted
-  pub each : (n : ℕ) (c : Command) → read < n → n < w.sorted → slice_get p.commands n ≡ Some c → c.action ≡ Sort →
+-- Each SORT after READ and before `last_command` leaves the old order, and no step for the entry is of a later command.
+pub record AreOrdered (p : Program) (key : List ℕ) (first : Difference) (ss : List Step) (read k : ℕ) (w : Walk) : Type 0 where
+  pub above : (x : ℕ) (t : Step) → x < k → slice_get ss x ≡ Some t → is_for key t ≡ true → t.command ≤ w.last_command
+  pub each : (n : ℕ) (c : Command) → read < n → n < w.last_command → slice_get p.commands n ≡ Some c → c.action ≡ Sort →
       HasOrder p key first ss (with_steps ss w.steps) k n
 
-abbrev pub AreOrderedIn : Seat → ℕ → Walk → Type 0
-AreOrderedIn seat k w =
-    AreOrdered (program_of seat.style.now) seat.key.now (first_in seat) seat.earlier.now.steps seat.read k w
+abbrev pub AreOrderedIn : WalkContext → ℕ → Walk → Type 0
+AreOrderedIn context k w =
+    AreOrdered (program_of context.style.now) context.key.now (first_of (program_of context.style.now) context.first.now) context.earlier.now.steps context.read k w
+
+-- A walk has gone past all steps.
+pub record IsWalkThrough (p : Program) (key : List ℕ) (first : Difference) (ss : List Step) (read : ℕ) (w : Walk) : Type 0 where
+  pub walked : IsWalked p key first ss (length ss) w
+  pub ordered : AreOrdered p key first ss read (length ss) w
+  pub sorted : HasNoSort p.commands w.last_command (length p.commands)
+  pub goes : LastGoes ss
+
+-- Such a walk over the kept steps, for the entry that the kept edit changes.
+pub record IsWalkFrom (p : Program) (kept : Kept) (place : ℕ) (w : Walk) : Type 0 where
+  pub k : KeptResolution
+  pub d : FoundEntry
+  pub read : ℕ
+  pub is : kept.resolution ≡ Some k
+  pub other : IsChangedEntry k place d
+  pub only : IsOnlyRead read p.commands
+  pub within : place < length kept.entries
+  pub counted : length (resolved_for k.resolution).entries ≡ length kept.entries
+  pub keyed : HasKey place d.key kept.entries
+  pub some_key : bytes_eq [] d.key ≡ false
+  pub through : IsWalkThrough p d.key (first_of p (with_blank_variables p d)) kept.steps read w
+
+abbrev pub IsWalkThroughIn : WalkContext → Walk → Type 0
+IsWalkThroughIn context w =
+    IsWalkThrough (program_of context.style.now) context.key.now (first_of (program_of context.style.now) context.first.now) context.earlier.now.steps context.read w

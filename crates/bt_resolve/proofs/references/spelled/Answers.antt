@@ -11,5 +11,5 @@ returns-in-None c =
 
 pub returns-in-Some : goal.returns-in-Some
 returns-in-Some c =
-    if_ok _ _ c.copied.result (λ (text : List ℕ) is.
-    spelled_cited c.args.keys.now c.args.key.now c.as_slice.result.now text c.in-Some.cited.now (option_copied c.in_ok-find.field-0) (c.as_slice.ensures ∙ c.deref.ensures) c.in_ok-find.ensures (ap option_copied c.in-Some.is) (is ∙ c.as_slice-in-Some.ensures)) c.copied.ensures
+    if_ok _ _ c.spelled_as.result (λ (text : List ℕ) is.
+    spelled_cited c.args.keys.now c.args.key.now c.as_slice.result.now text c.in-Some.cited.now (option_copied c.in_ok-find.field-0) (c.as_slice.ensures ∙ c.deref.ensures) c.in_ok-find.ensures (ap option_copied c.in-Some.is) (is ∙ c.as_slice-in-Some.ensures)) c.spelled_as.ensures

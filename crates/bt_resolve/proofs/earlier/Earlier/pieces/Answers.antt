@@ -22,5 +22,5 @@ returns c = λ a databases new is here.
       entries =
           entries_known q number old old_is a f c.as_slice-2.result.now c.strings_end.result is.found is.fields is.types rs_is
           (λ k far. subst (λ (ps : List PlacedPiece). DefineNothing (items_of (drop k ps))) (c.pieces.ensures ∙ c.deref.ensures) (c.strings_end.ensures k far))
-          (is.free (number + 1) (omega (arith, c.if-branch-self.false, c.in_ok-checked_add.ensures)));
+          (is.strings (number + 1) (omega (arith, c.if-branch-self.false, c.in_ok-checked_add.ensures)));
     }

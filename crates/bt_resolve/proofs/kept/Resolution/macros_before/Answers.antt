@@ -1,4 +1,4 @@
-use Rattle.std.proofs.Common.{◌∙◌, ap, sym}
+use Rattle.std.proofs.Common.{◌∙◌, ◌+◌, ap, sym}
 use Rattle.std.proofs.lemmas.List.{length-take-le}
 use Rattle.bt_text.specs.ByName.{known}
 use Rattle.bt_text.proofs.NameLemmas.{if_ok}
@@ -15,12 +15,12 @@ slice_bounds-pieces-end c =
     let at = place_is c.self.inside.question c.args.self.now c.args.number c.args.before c.as_slice-databases.result.now c.index-databases-number.result c.pieces-pieces.result.now c.requires c.self.view_is c.as_slice-databases.ensures c.index-databases-number.is (c.pieces-pieces.ensures ∙ c.deref.ensures) in
     sym (length-take-le c.args.before c.pieces-pieces.result.now at.2)
 
-pub returns-then-have_no_strings : goal.returns-then-have_no_strings
-returns-then-have_no_strings c =
+pub returns-then-string_databases-number : goal.returns-then-string_databases-number
+returns-then-string_databases-number c =
     let at = place_is c.self.inside.question c.args.self.now c.args.number c.args.before c.as_slice-databases.result.now c.index-databases-number.result c.pieces-pieces.result.now c.requires c.self.view_is c.as_slice-databases.ensures c.index-databases-number.is (c.pieces-pieces.ensures ∙ c.deref.ensures) in
     if_ok _ _ c.share.result
     (λ macros is. before_kept c.self.inside.question c.args.self.now c.args.number c.args.before c.as_slice-databases.result.now c.pieces-pieces.result.now (known macros) c.self.view_is c.as_slice-databases.ensures at.0
-    (ap known is ∙ c.self.invariant.macros_known) (c.define_nothing.ensures c.if-define_nothing.true) (c.have_no_strings.ensures c.if-have_no_strings.true))
+    (ap known is ∙ c.self.invariant.macros_known) (c.strings_end.ensures c.args.before c.if-strings_end-before.true) (c.string_databases.ensures (c.args.number + 1) c.if-string_databases-number.true))
     c.share.ensures
 
 pub returns : goal.returns

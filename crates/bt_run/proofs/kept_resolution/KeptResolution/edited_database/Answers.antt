@@ -1,6 +1,8 @@
-use Rattle.std.proofs.Common.{◌∙◌, ap, sym, map, List, ℕ}
+use Rattle.std.proofs.Common.{◌∙◌, ap, sym, subst, map, List, ℕ}
 use Rattle.std.specs.Prelude.{slice_set}
 use Rattle.bt_bib.specs.BibText.{pieces_of}
+use Rattle.bt_resolve.specs.declared.earlier.KeptPieces.{KeptPieces}
+use Rattle.bt_resolve.specs.inner.Earlier.{AreEdited}
 use Rattle.bt_resolve.proofs.EarlierLemmas.{nothing_edited}
 use Rattle.bt_run.proofs.FindingLemmas.{texts_edited}
 use Rattle.bt_run.proofs.kept_resolution.KeptResolution.edited_database.Goals as goal
@@ -8,7 +10,8 @@ use Rattle.bt_run.proofs.kept_resolution.KeptResolution.edited_database.Goals as
 pub returns-then-are_same : goal.returns-then-are_same
 returns-then-are_same c =
     let kept = c.args.self.now in
-    nothing_edited kept.resolution (map pieces_of c.args.texts.now) (ap (map pieces_of) (sym (c.are_same.ensures c.if-are_same.true) ∙ c.as_slice.ensures) ∙ sym kept.read)
+    subst (λ (all : KeptPieces). AreEdited kept.resolution (record { number = 0; kept = all }) (map pieces_of c.args.texts.now)) (sym c.all.ensures)
+    (nothing_edited kept.resolution 0 (map pieces_of c.args.texts.now) (ap (map pieces_of) (sym (c.are_same.ensures c.if-are_same.true) ∙ c.as_slice.ensures) ∙ sym kept.read))
 
 pub returns : goal.returns
 returns c =

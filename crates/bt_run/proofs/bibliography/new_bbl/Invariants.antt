@@ -1,0 +1,13 @@
+use Rattle.std.proofs.Common.{◌≡◌, ◌++◌, ◌≤◌, drop, length}
+use Rattle.bt_run.specs.inner.Cases.{bbl_of}
+use Rattle.bt_run.specs.inner.Walk.{AreNumbered, with_steps}
+use Rattle.bt_run.proofs.bibliography.new_bbl.Given as goal
+
+abbrev pub invariant-others : goal.invariant-others
+invariant-others l = record {
+  numbered : AreNumbered l.number (length l.kept.steps) (drop l.other-index l.others);
+  within : l.place ≤ length l.old;
+  rest : drop l.place l.old ≡ bbl_of (drop l.number l.kept.steps);
+  whole : l.bbl.items ++ bbl_of (drop l.number (with_steps l.kept.steps (drop l.other-index l.others)))
+      ≡ bbl_of (with_steps l.kept.steps l.others);
+}
