@@ -1,2 +1,4 @@
 pub mod JobLemmas
+pub mod JobRunLemmas
+mod PlainLemmas
 pub mod laws

@@ -5,17 +5,17 @@
 
 ghost use Rattle.std.specs.Prelude.{◌≡◌, ℕ, ◌++◌, map, IfOk, OnOk};
 ghost use Rattle.bt_bib.specs.AuxLine.{aux_lines};
-ghost use Rattle.bt_run.specs.Meaning.{meaning, trace};
 ghost use Rattle.bt_run.specs.Shown.{meaning_of};
 ghost use Rattle.bt_files.specs.AuxText.{names_by, part_with, item_with};
 ghost use Rattle.bt_files.specs.Messages.{name_back};
-ghost use Rattle.bt_front.specs.Job.{is_aux, names_given, names_with, names_of, table_of, renamed, text_under, file_under, root_under, told_under, job_meaning, job_trace};
+ghost use Rattle.bt_front.specs.Job.{is_aux, names_given, names_with, names_of, table_of, renamed, text_under, file_under, root_under, told_under, job_meaning};
+ghost use Rattle.bt_front.specs.JobRun.{IsLogged};
 
 use bt_bib::{AuxItem, Command, read_aux};
 use bt_files::{Names, all_put_back, is_own_name, written};
 use bt_job::{AuxTexts, File, file_name_of, read_citations};
 use bt_log::{log_bytes, terse_bytes};
-use bt_run::{Answers, Kept, Run, answers_after, run_once};
+use bt_run::{Answers, run_once};
 use bt_text::{Bytes, Sequence, Shared};
 use std::alloc::{AllocError, Global};
 
@@ -206,14 +206,14 @@ fn names_back(alloc: Global, names: &Names, files: &[Bytes]) -> Result<Sequence<
 
 /// A job under the session's names.
 #[derive(Drop)]
-struct UnderNames {
-    names: Names,
-    files: Sequence<File>,
-    root: Bytes,
+pub struct UnderNames {
+    pub names: Names,
+    pub files: Sequence<File>,
+    pub root: Bytes,
 }
 
 impl UnderNames {
-    fn of(alloc: Global, files: &[File], root: &[u8]) -> Result<UnderNames, AllocError>
+    pub fn of(alloc: Global, files: &[File], root: &[u8]) -> Result<UnderNames, AllocError>
         ensures names { IfOk result (λ under. under.names ≡ table_of files.now root.now) }
         ensures files { IfOk result (λ under. under.files ≡ map (file_under under.names) files.now) }
         ensures root { IfOk result (λ under. under.root ≡ root_under root.now) }
@@ -223,32 +223,16 @@ impl UnderNames {
         let root = root_under(alloc, root)?;
         Ok(UnderNames { names, files, root })
     }
-
-    /// `drop` is called by name here, since it is proved for all types at once: a function in which `?` drops a run takes a
-    /// minute to prove.
-    fn run_after(&self, alloc: Global, min: u32, kept: &mut Kept) -> Result<Run, AllocError>
-        ensures meaning { IfOk result (λ run. meaning_of run.answers
-            ≡ told_under self.now.names (meaning self.now.files self.now.root min)) }
-        ensures steps { IfOk result (λ run. run.kept.steps ≡ trace self.now.files self.now.root min) }
-        ensures same_text { kept.new.text ≡ kept.old.text }
-        ensures same_steps { kept.new.steps ≡ kept.old.steps }
-    {
-        let (files, root) = (self.files.as_slice(), self.root.as_slice());
-        let mut run = answers_after(alloc, files, root, min, kept)?;
-        match put_names_back(alloc, &self.names, &mut run.answers) {
-            Ok(()) => Ok(run),
-            Err(error) => {
-                drop(run);
-                Err(error)
-            }
-        }
-    }
 }
 
-/// Puts the author's names back.
-fn put_names_back(alloc: Global, names: &Names, answers: &mut Answers) -> Result<(), AllocError>
+/// Puts the author's names back. The answers of a job that needs no other names have them.
+pub fn put_names_back(alloc: Global, names: &Names, answers: &mut Answers) -> Result<(), AllocError>
+    requires { IsLogged (meaning_of answers.old) }
     ensures { OnOk result (meaning_of answers.new ≡ told_under names.now (meaning_of answers.old)) }
 {
+    if names.is_empty() {
+        return Ok(());
+    }
     let messages = all_put_back(alloc, names, answers.messages.as_slice())?;
     let blg = log_bytes(alloc, messages.as_slice())?;
     let terse = terse_bytes(alloc, messages.as_slice())?;
@@ -270,37 +254,6 @@ pub fn run(alloc: Global, files: &[File], root: &[u8], min: u32) -> Result<Answe
     let mut answers = run_once(alloc, under.files.as_slice(), under.root.as_slice(), min)?;
     put_names_back(alloc, &under.names, &mut answers)?;
     Ok(answers)
-}
-
-/// As `run`, with the steps of the run and what it read of the files. Both are under the session's names.
-pub fn run_keeping_steps(
-    alloc: Global,
-    files: &[File],
-    root: &[u8],
-    min: u32,
-) -> Result<Run, AllocError>
-    ensures { IfOk result (λ run. meaning_of run.answers ≡ job_meaning files.now root.now min) }
-{
-    run_after(alloc, files, root, min, &mut Kept::nothing(alloc))
-}
-
-/// As `run_keeping_steps`, after a run that left `kept`: a step that nothing new can reach isn't run, and a text that was read
-/// isn't read. What an earlier run left changes nothing of the result. What READ found is taken out of `kept`; its steps stay.
-#[tactic(auto, unfolding(crate::specs::Job::job_meaning, crate::specs::Job::job_trace))]
-pub fn run_after(
-    alloc: Global,
-    files: &[File],
-    root: &[u8],
-    min: u32,
-    kept: &mut Kept,
-) -> Result<Run, AllocError>
-    ensures meaning { IfOk result (λ run. meaning_of run.answers ≡ job_meaning files.now root.now min) }
-    ensures steps { IfOk result (λ run. run.kept.steps ≡ job_trace files.now root.now min) }
-    ensures same_text { kept.new.text ≡ kept.old.text }
-    ensures same_steps { kept.new.steps ≡ kept.old.steps }
-{
-    let under = UnderNames::of(alloc, files, root)?;
-    under.run_after(alloc, min, kept)
 }
 
 /// The names of the files that a run of the job looks for and doesn't find, in order, each once. Nothing is run. The only

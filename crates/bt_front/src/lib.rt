@@ -3,5 +3,7 @@
 #![tactic(auto)]
 
 mod job;
+mod job_run;
 
-pub use job::{names_of, run, run_after, run_keeping_steps, wanted};
+pub use job::{names_of, run, wanted};
+pub use job_run::JobRun;

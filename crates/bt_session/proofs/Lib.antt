@@ -1,2 +1,3 @@
 mod DifferLemmas
+mod NameLemmas
 pub mod laws

@@ -1,5 +1,5 @@
 -- What a session over an author's files shows.
-use Rattle.std.specs.Prelude.{◌≡◌, ℕ, Bool, ◌&&◌, nat_le, List, length}
+use Rattle.std.specs.Prelude.{ℕ, Bool, ◌&&◌, nat_le, List, length}
 use Rattle.std.specs.Option.{is_none}
 use Rattle.bt_job.specs.declared.files.File.{File}
 use Rattle.bt_job.specs.FileNames.{text_of}
@@ -20,8 +20,3 @@ shown s = job_meaning s.texts s.root s.min
 -- the steps of their run
 abbrev pub steps_of : State → List Step
 steps_of s = job_trace s.texts s.root s.min
-
--- The invariant of a session: beside its state it keeps what the state means, and the steps of its run.
-pub record Keeps (s : State) (m : Meaning) (steps : List Step) : Type 0 where
-  pub is_meaning : m ≡ shown s
-  pub are_steps : steps ≡ steps_of s

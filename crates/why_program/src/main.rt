@@ -8,6 +8,7 @@ mod report;
 
 use crate::options::{Options, Question, Request, parse};
 use crate::report::Report;
+use bt_front::JobRun;
 use bt_job::File;
 use bt_origins::{
     Difference, Explained, NamedText, Places, Sources, explain, places_of, style_named, text_named,
@@ -283,10 +284,10 @@ fn tell_run(
 }
 
 fn explain_files(rt: &HostRuntime, files: &[File], options: Options<'_>) -> Result<u8, AllocError> {
-    let run = bt_front::run_keeping_steps(rt.alloc(), files, options.job.as_bytes(), options.min)?;
-    let status = tell_run(rt, files, &run, options);
+    let job = JobRun::of(rt.alloc(), files, options.job.as_bytes(), options.min)?;
+    let status = tell_run(rt, files, &job.run, options);
     // The program ends here: what the run kept goes with it, at once.
-    forget(run);
+    forget(job);
     status
 }
 

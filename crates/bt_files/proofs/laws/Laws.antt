@@ -12,6 +12,7 @@ use Rattle.bt_files.specs.laws.Laws.{SessionNamesLeadBack, SessionNamesDiffer, A
 use Rattle.bt_files.proofs.laws.TableLemmas
 use Rattle.bt_files.proofs.laws.MetLemmas
 use Rattle.bt_files.proofs.laws.MessageLemmas
+use Rattle.bt_files.proofs.MessageLemmas.{message_stays}
 
 pub written_items_are_read : WrittenItemsAreRead
 unfolding aux_lines written IsWritable
@@ -49,7 +50,7 @@ pub session_names_stay : SessionNamesStay
 session_names_stay = record { met = TableLemmas.met_named; kept = TableLemmas.name_stays }
 
 pub messages_stay_without_names : MessagesStayWithoutNames
-messages_stay_without_names = MessageLemmas.message_stays
+messages_stay_without_names = message_stays
 
 pub status_stays : StatusStays
 status_stays = MessageLemmas.status_same

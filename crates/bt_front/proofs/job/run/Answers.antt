@@ -1,9 +1,15 @@
-use Rattle.std.proofs.Common.{◌∙◌, ap, List, ℕ}
+use Rattle.std.proofs.Common.{◌∙◌, ap, subst, sym, List, ℕ}
 use Rattle.bt_job.specs.declared.files.File.{File}
 use Rattle.bt_run.specs.Meaning.{meaning}
 use Rattle.bt_run.specs.Shown.{meaning_of}
 use Rattle.bt_front.proofs.JobLemmas.{job_told}
+use Rattle.bt_front.proofs.PlainLemmas.{is_logged}
+use Rattle.bt_front.specs.JobRun.{IsLogged}
 use Rattle.bt_front.proofs.job.run.Goals as goal
+
+pub put_names_back-requires : goal.put_names_back-requires
+put_names_back-requires c =
+    subst IsLogged (sym c.in_ok-answers.ensures) (is_logged c.as_slice.result.now c.as_slice-2.result.now c.args.min)
 
 pub returns : goal.returns
 returns c =

@@ -1,19 +1,17 @@
-use Rattle.std.proofs.Common.{◌∙◌, ap, List, ℕ}
-use Rattle.bt_job.specs.declared.files.File.{File}
-use Rattle.bt_run.specs.Meaning.{Meaning, meaning, trace}
+use Rattle.std.proofs.Common.{◌∙◌, ap, subst, sym}
+use Rattle.bt_run.specs.Meaning.{Meaning}
 use Rattle.bt_front.specs.Job.{told_under}
+use Rattle.bt_front.specs.JobRun.{IsLogged}
+use Rattle.bt_front.proofs.JobRunLemmas.{run_under}
+use Rattle.bt_front.proofs.PlainLemmas.{is_logged}
 use Rattle.bt_front.proofs.job.UnderNames.run_after.Goals as goal
 
-pub returns-in-Ok-clause-meaning : goal.returns-in-Ok-clause-meaning
-returns-in-Ok-clause-meaning c =
-    c.in-Ok.ensures
-    ∙ ap (λ (m : Meaning). told_under c.args.self.now.names m)
-    (c.in_ok-run.ensures.shown
-    ∙ ap (λ (fs : List File). meaning fs c.as_slice-root.result.now c.args.min) c.as_slice-files.ensures
-    ∙ ap (λ (r : List ℕ). meaning c.args.self.now.files r c.args.min) c.as_slice-root.ensures)
+pub put_names_back-requires : goal.put_names_back-requires
+put_names_back-requires c =
+    subst IsLogged (sym c.in_ok-run.ensures.shown) (is_logged c.as_slice-files.result.now c.as_slice-root.result.now c.args.min)
 
-pub returns-in-Ok-clause-steps : goal.returns-in-Ok-clause-steps
-returns-in-Ok-clause-steps c =
-    c.in_ok-run.ensures.steps
-    ∙ ap (λ (fs : List File). trace fs c.as_slice-root.result.now c.args.min) c.as_slice-files.ensures
-    ∙ ap (λ (r : List ℕ). trace c.args.self.now.files r c.args.min) c.as_slice-root.ensures
+pub returns-in-Ok-clause-run : goal.returns-in-Ok-clause-run
+returns-in-Ok-clause-run c =
+    run_under c.args.self.now c.as_slice-files.result.now c.as_slice-root.result.now c.args.min _ c.as_slice-files.ensures c.as_slice-root.ensures
+    (c.in-Ok.ensures ∙ ap (λ (m : Meaning). told_under c.args.self.now.names m) c.in_ok-run.ensures.shown)
+    c.in_ok-run.ensures.steps c.in_ok-run.ensures.text c.in_ok-run.ensures.databases
