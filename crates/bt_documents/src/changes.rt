@@ -1,9 +1,9 @@
 //! An editor's changes of a text.
 
-ghost use Rattle.std.specs.Prelude.{◌≡◌, ◌≤◌, ◌++◌, length, take, drop, IfOk};
+ghost use Rattle.std.specs.Prelude.{◌≡◌, IfOk};
 ghost use Rattle.bt_documents.specs.Changes.{text_after, all_edited};
 
-use bt_positions::{Counting, IndexedText, Position};
+use bt_positions::{Counting, IndexedText, Position, Splice};
 use bt_text::Bytes;
 use std::alloc::{AllocError, Global};
 
@@ -14,23 +14,6 @@ pub enum Change {
     Whole(Bytes),
     /// The part between two positions is replaced.
     Range(Position, Position, Bytes),
-}
-
-fn splice(
-    alloc: Global,
-    text: &[u8],
-    start: usize,
-    end: usize,
-    new: &[u8],
-) -> Result<IndexedText, AllocError>
-    requires in_order { start ≤ end }
-    requires within { end ≤ length text.now }
-    ensures { IfOk result (λ changed. changed ≡ take start text.now ++ new.now ++ drop end text.now) }
-{
-    let (front, _) = text.split_at(start);
-    let (_, back) = text.split_at(end);
-    let bytes = Bytes::of(alloc, &[front, new, back])?;
-    IndexedText::new(alloc, bytes.into_vec())
 }
 
 fn text_after(
@@ -46,7 +29,12 @@ fn text_after(
         Change::Range(from, to, new) => {
             let start = text.offset_of(counting, *from);
             let end = text.offset_of(counting, *to).max(start);
-            splice(alloc, text.as_slice(), start, end, new.as_slice())
+            let splice = Splice {
+                start,
+                end,
+                new: new.as_slice(),
+            };
+            text.spliced(alloc, &splice)
         }
     }
 }

@@ -1,1 +1,2 @@
 pub mod rows
+mod KeyLemmas

@@ -5,11 +5,12 @@
 
 ghost use Rattle.std.specs.Prelude.{◌≡◌, ◌≤◌, ◌<◌, ◌+◌, ◌^◌, length, IfOk, IfSome};
 ghost use Rattle.std.specs.List.{prefix_len};
-ghost use Rattle.bt_mentions.specs.Keys.{is_type_byte, is_plain_key_byte, is_entry_type, before_key, key_after, entry_key, with_entry_key, entry_keys};
+ghost use Rattle.bt_mentions.specs.Keys.{is_type_byte, is_plain_key_byte, is_entry_type, before_key, key_after, entry_key, entry_keys};
 
 use crate::databases::is_opening;
 use crate::mention::{Mention, Role};
 use bt_text::{Sequence, eq_ignore_ascii_case, is_white, white_run};
+use memchr::memchr;
 use std::alloc::{AllocError, Global};
 
 /// The most bytes of a key that are looked at, so that a text takes the same time for each of its bytes.
@@ -94,22 +95,6 @@ fn entry_key(text: &[u8], place: usize) -> Option<Mention>
     }
 }
 
-fn with_entry_key(
-    found: Sequence<Mention>,
-    byte: u8,
-    text: &[u8],
-    place: usize,
-) -> Result<Sequence<Mention>, AllocError>
-    requires { place + length text.now < 2 ^ 64 }
-    ensures { IfOk result (λ all. all ≡ with_entry_key found byte text.now place) }
-{
-    let mut all = found;
-    if byte == b'@' {
-        all.push_if_any(entry_key(text, place))?;
-    }
-    Ok(all)
-}
-
 /// The keys of a database's entries, in order.
 pub fn entry_keys(alloc: Global, text: &[u8]) -> Result<Sequence<Mention>, AllocError>
     ensures { IfOk result (λ found. found ≡ entry_keys text.now) }
@@ -117,10 +102,11 @@ pub fn entry_keys(alloc: Global, text: &[u8]) -> Result<Sequence<Mention>, Alloc
     let mut found = Sequence::new(alloc);
     let mut place = 0;
     let mut rest = text;
-    'bytes: while let [first, others @ ..] = rest {
-        place += 1;
-        found = with_entry_key(found, *first, others, place)?;
+    'entries: while let Some(count) = memchr(b'@', rest) {
+        let (_, others) = rest.split_at(count + 1);
         rest = others;
+        place += count + 1;
+        found.push_if_any(entry_key(rest, place))?;
     }
     Ok(found)
 }

@@ -3,3 +3,4 @@ pub mod StartLemmas
 pub mod WidthLemmas
 pub mod MarkLemmas
 pub mod laws
+mod SpliceLemmas

@@ -3,7 +3,8 @@ use Rattle.std.specs.List.Sorted.{IsNonDecreasingBy}
 use Rattle.std.proofs.Common.{◌≡◌, ℕ, zero, suc, ◌+◌, ◌-◌, ◌<◌, ◌≤◌, Bool, true, false, cond, List, [], ◌∷◌, ◌++◌, length, drop, get_or, Some, None, refl, sym, ap, subst, ◌∙◌, append_assoc, append-nil, arith}
 use Rattle.std.proofs.lemmas.Grind.{common_steps}
 use Rattle.std.proofs.lemmas.List.{drop_all, drop_more}
-use Rattle.memchr.specs.Find.{IsFirstByte, is_byte2}
+use Rattle.std.proofs.lemmas.Bool.{false_from_ne_true}
+use Rattle.memchr.specs.Find.{IsFirstByte, is_byte, is_byte2}
 use Rattle.std.specs.Prelude.{◌==◌, ◌||◌, ◌&&◌, not}
 use Rattle.bt_positions.specs.declared.lines.Lines.{Lines}
 use Rattle.bt_positions.specs.declared.lines.Lines.TheVariants.{Editor, Bibtex}
@@ -179,3 +180,16 @@ counted n r t starts is p below above =
     ends_counted 0 n r t (subst (λ s. r ≤ length s) is p)
     (subst (λ m. (k d : ℕ) → k < r → get_or (line_starts Editor 0 t) k d ≤ m) none (subst (λ s. (k d : ℕ) → k < r → get_or s k d ≤ n) is below))
     (subst (λ m. (d : ℕ) → r < length (line_starts Editor 0 t) → m < get_or (line_starts Editor 0 t) r d) none (subst (λ s. (d : ℕ) → r < length s → n < get_or s r d) is above))
+
+-- Without CR, lines are the same for both.
+pub same_ends : (b : ℕ) (t : List ℕ) → (is_byte 13 b ≡ true → ⊥) → ends_line Editor b t ≡ ends_line Bibtex b t
+same_ends b t n = grind (arith, common_steps, false_from_ne_true (b == 13) n)
+
+pub same_starts : (o : ℕ) (t : List ℕ) → ((j : ℕ) → j < length t → is_byte 13 (get_or t j 0) ≡ true → ⊥) → line_starts Editor o t ≡ line_starts Bibtex o t
+same_starts o [] n = refl
+same_starts o (b ∷ t) n =
+    ap (λ e. starts_by e (suc o) (line_starts Editor (suc o) t)) (same_ends b t (n 0 (omega arith)))
+    ∙ ap (starts_by (ends_line Bibtex b t) (suc o)) (same_starts (suc o) t (λ j lt. n (suc j) (omega (arith, lt))))
+
+pub without_returns : (t : List ℕ) → IsFirstByte (is_byte 13) t None → line_starts Editor 0 t ≡ line_starts Bibtex 0 t
+without_returns t none = same_starts 0 t (λ j lt. none j (omega arith) lt)

@@ -1,7 +1,8 @@
 -- Positions, and the offsets of their bytes.
-use Rattle.std.specs.Prelude.{ℕ, ◌+◌, ◌-◌, min, take, drop, List}
+use Rattle.std.specs.Prelude.{ℕ, ◌+◌, ◌-◌, min, take, drop, List, ◌++◌}
 use Rattle.bt_positions.specs.declared.counting.Counting.{Counting}
 use Rattle.bt_positions.specs.declared.indexed_text.Position.{Position}
+use Rattle.bt_positions.specs.declared.splicing.Splice.{Splice}
 use Rattle.bt_positions.specs.Units.{width, fitting}
 use Rattle.bt_positions.specs.declared.lines.Lines.TheVariants.{Editor}
 use Rattle.bt_positions.specs.Lines.{place_of_line, line_ends, first_line}
@@ -17,3 +18,7 @@ abbrev pub position_of : Counting → ℕ → List ℕ → Position
 position_of c n text =
     let start = min (place_of_line Editor (line_ends n text) text) n in
     record { line = line_ends n text; character = width c (take (n - start) (drop start text)) }
+
+-- the text with a part replaced
+abbrev pub spliced : Splice → List ℕ → List ℕ
+spliced s text = take s.start text ++ s.new.now ++ drop s.end text

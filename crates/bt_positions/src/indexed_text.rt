@@ -4,13 +4,14 @@ ghost use Rattle.std.specs.Prelude.{◌≡◌, ◌≤◌, ◌<◌, ◌*◌, ◌^
 ghost use Rattle.bt_positions.specs.declared.counting.Counting.TheVariants.{Utf16, LatinAsUtf8};
 ghost use Rattle.bt_positions.specs.declared.lines.Lines.TheVariants.{Editor, Bibtex};
 ghost use Rattle.bt_positions.specs.Lines.{place_of_line};
-ghost use Rattle.bt_positions.specs.Positions.{offset_of, position_of};
-ghost use Rattle.bt_positions.specs.inner.LineStarts.{line_starts};
+ghost use Rattle.bt_positions.specs.Positions.{offset_of, position_of, spliced};
+ghost use Rattle.bt_positions.specs.inner.LineStarts.{line_starts, starts_or};
 ghost use Rattle.bt_positions.specs.inner.Marks.{marks_of};
 
 use crate::counting::{Counting, fitting};
-use crate::lines::{Lines, line_begin, line_starts, lines_before};
+use crate::lines::{Lines, has_return, line_begin, line_starts, lines_before, own_starts};
 use crate::marks::{character_at, line_at, marks_of, spot_near};
+use crate::splicing::{Splice, bytes_after, starts_after};
 use std::alloc::{AllocError, Global};
 use std::marker::Model;
 
@@ -26,11 +27,12 @@ pub struct Position {
 pub struct IndexedText {
     bytes: Vec<u8>,
     editor: Vec<usize>,
-    bibtex: Vec<usize>,
+    /// None if they are the editor's.
+    bibtex: Option<Vec<usize>>,
     utf16: Vec<usize>,
     latin: Vec<usize>,
     ghost editor_starts: { editor.items ≡ line_starts Editor 0 bytes.items },
-    ghost bibtex_starts: { bibtex.items ≡ line_starts Bibtex 0 bytes.items },
+    ghost bibtex_starts: { starts_or bibtex editor.items ≡ line_starts Bibtex 0 bytes.items },
     ghost utf16_marks: { utf16.items ≡ marks_of Utf16 (length utf16.items) bytes.items },
     ghost latin_marks: { latin.items ≡ marks_of LatinAsUtf8 (length latin.items) bytes.items },
 }
@@ -49,7 +51,14 @@ impl IndexedText {
         ensures { IfOk result (λ text. text ≡ bytes.items) }
     {
         let editor = line_starts(alloc, Lines::Editor, bytes.as_slice())?;
-        let bibtex = line_starts(alloc, Lines::Bibtex, bytes.as_slice())?;
+        IndexedText::with_starts(alloc, bytes, editor)
+    }
+
+    fn with_starts(alloc: Global, bytes: Vec<u8>, editor: Vec<usize>) -> Result<Self, AllocError>
+        requires { editor.items ≡ line_starts Editor 0 bytes.items }
+        ensures { IfOk result (λ text. text ≡ bytes.items) }
+    {
+        let bibtex = own_starts(alloc, bytes.as_slice())?;
         let utf16 = marks_of(alloc, Counting::Utf16, bytes.as_slice(), editor.as_slice())?;
         let latin = marks_of(
             alloc,
@@ -73,11 +82,38 @@ impl IndexedText {
         IndexedText::new(alloc, Vec::from_slice(alloc, bytes)?)
     }
 
+    /// The text with a part replaced.
+    pub fn spliced(&self, alloc: Global, splice: &Splice<'_>) -> Result<IndexedText, AllocError>
+        requires in_order { splice.now.start ≤ splice.now.end }
+        requires within { splice.now.end ≤ length self.now }
+        ensures { IfOk result (λ text. text ≡ spliced splice.now self.now) }
+    {
+        let text = self.bytes.as_slice();
+        let bytes = bytes_after(alloc, text, splice)?;
+        if has_return(text) || has_return(bytes.as_slice()) {
+            return IndexedText::new(alloc, bytes);
+        }
+        let editor = starts_after(alloc, text, self.editor.as_slice(), splice)?;
+        IndexedText::with_starts(alloc, bytes, editor)
+    }
+
     /// The bytes.
     pub fn as_slice(&self) -> &[u8]
         ensures { result.now ≡ self.now }
     {
         self.bytes.as_slice()
+    }
+
+    fn starts(&self, lines: Lines) -> &[usize]
+        ensures { result.now ≡ line_starts lines 0 self.now }
+    {
+        match lines {
+            Lines::Editor => self.editor.as_slice(),
+            Lines::Bibtex => match &self.bibtex {
+                Some(own) => own.as_slice(),
+                None => self.editor.as_slice(),
+            },
+        }
     }
 
     /// The offset at which a line begins, counted from 0; the text's length if it has fewer lines.
@@ -86,11 +122,7 @@ impl IndexedText {
         ensures value { result ≡ place_of_line lines line self.now }
         ensures within { result ≤ length self.now }
     {
-        let starts = match lines {
-            Lines::Editor => self.editor.as_slice(),
-            Lines::Bibtex => self.bibtex.as_slice(),
-        };
-        line_begin(self.bytes.as_slice(), lines, starts, line)
+        line_begin(self.bytes.as_slice(), lines, self.starts(lines), line)
     }
 
     /// Marks of the text in these units. If each byte is a unit, none are needed.

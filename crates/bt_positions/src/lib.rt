@@ -12,7 +12,9 @@ mod counting;
 mod indexed_text;
 mod lines;
 mod marks;
+mod splicing;
 
 pub use counting::Counting;
 pub use indexed_text::{IndexedText, Position};
 pub use lines::{Lines, first_line};
+pub use splicing::Splice;

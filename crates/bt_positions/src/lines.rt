@@ -1,11 +1,12 @@
 //! The lines of a text: where they begin, and the first one.
 
-ghost use Rattle.std.specs.Prelude.{◌≡◌, ◌≤◌, [], ◌∷◌, ◌++◌, length, if◌then◌else◌, IfOk, OnOk};
-ghost use Rattle.bt_positions.specs.declared.lines.Lines.TheVariants.{Editor};
+ghost use Rattle.std.specs.Prelude.{◌≡◌, ◌≤◌, [], ◌∷◌, ◌++◌, length, if◌then◌else◌, IfOk, OnOk, false, None};
+ghost use Rattle.memchr.specs.Find.{IsFirstByte, is_byte};
+ghost use Rattle.bt_positions.specs.declared.lines.Lines.TheVariants.{Editor, Bibtex};
 ghost use Rattle.bt_positions.specs.Lines.{begins_with_feed, ends_line, first_line, line_ends, place_of_line};
-ghost use Rattle.bt_positions.specs.inner.LineStarts.{line_starts};
+ghost use Rattle.bt_positions.specs.inner.LineStarts.{line_starts, starts_or};
 
-use memchr::memchr2;
+use memchr::{memchr, memchr2};
 use std::alloc::{AllocError, Global};
 
 /// Whose lines are counted.
@@ -62,6 +63,24 @@ pub fn line_starts(alloc: Global, lines: Lines, text: &[u8]) -> Result<Vec<usize
     Ok(starts)
 }
 
+pub fn has_return(text: &[u8]) -> bool
+    ensures { result ≡ false → IsFirstByte (is_byte 13) text.now None }
+{
+    memchr(b'\r', text).is_some()
+}
+
+/// The line starts of messages, if they may differ from the editor's: the text has a CR.
+#[tactic(auto, using(crate::proofs::StartLemmas::without_returns))]
+pub fn own_starts(alloc: Global, text: &[u8]) -> Result<Option<Vec<usize>>, AllocError>
+    ensures { IfOk result (λ own. starts_or own (line_starts Editor 0 text.now) ≡ line_starts Bibtex 0 text.now) }
+{
+    if !has_return(text) {
+        return Ok(None);
+    }
+    let starts = line_starts(alloc, Lines::Bibtex, text)?;
+    Ok(Some(starts))
+}
+
 /// The offset at which a line begins, counted from 0, of a text with these line starts.
 pub fn line_begin(text: &[u8], lines: Lines, starts: &[usize], line: u128) -> usize
     requires { starts.now ≡ line_starts lines 0 text.now }
@@ -80,6 +99,7 @@ pub fn line_begin(text: &[u8], lines: Lines, starts: &[usize], line: u128) -> us
 pub fn lines_before(text: &[u8], starts: &[usize], offset: usize) -> usize
     requires { starts.now ≡ line_starts Editor 0 text.now }
     ensures value { result ≡ line_ends offset text.now }
+    ensures within { result ≤ length starts.now }
 {
     starts.partition_point(|start| *start <= offset)
 }

@@ -11,4 +11,5 @@ returns c =
     let point = IsPartitionPoint-from_clause (λ k. leb k n) _ _ c.partition_point.ensures.partitioned parted (λ a r q k. search rules) in record {
       value = counted n c.partition_point.result c.args.text.now starts c.requires c.partition_point.ensures.bound
           (λ k d lt. leb-true _ _ (point.0 k d (omega arith) lt)) (λ d lt. leb-false _ _ (point.1 c.partition_point.result d (omega arith) lt));
+      within = c.partition_point.ensures.bound;
     }
