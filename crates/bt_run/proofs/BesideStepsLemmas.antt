@@ -14,7 +14,7 @@ use Rattle.bt_run.specs.Work.{IsStep, total_cost, work_under}
 use Rattle.bt_run.specs.inner.Beside.{AreBeside, AreUpTo, Difference, IsCountedUpTo, IsGivenAlike, IsNewStep, is_for, left}
 use Rattle.bt_run.specs.Counts.{calls_at}
 use Rattle.bt_run.specs.inner.Calls.{AreCalls, AreExchanged}
-use Rattle.bt_run.specs.inner.Index.{IsIndex}
+use Rattle.bt_run.specs.inner.Names.{IsIndex}
 use Rattle.bt_run.specs.inner.Turn.{AreInTurn}
 use Rattle.bt_run.specs.inner.Work.{IsNext}
 use Rattle.bt_run.proofs.BesideLemmas.{joined, self_beside}

@@ -90,7 +90,7 @@ none_has : (name : List ℕ) (ns : List (List ℕ)) → same_name name ns ≡ No
 none_has name [] h = refl
 none_has name (n ∷ ns) h = none_named (is_same_folded n name) n name ns (none_has name ns) h
 
-distinct_apart : (names : List (List ℕ)) → AreDistinct names → are_apart names ≡ true
+pub distinct_apart : (names : List (List ℕ)) → AreDistinct names → are_apart names ≡ true
 distinct_apart [] h = refl
 distinct_apart (n ∷ ns) h =
     let here : has_name ns n ≡ false = none_has n ns h.0 in
@@ -120,7 +120,7 @@ not_both true h g = absurd cc
 not_both false h g = absurd cc
 
 -- Names that are apart are different.
-names_differ : (names : List (List ℕ)) (m n : ℕ) → are_apart names ≡ true → m < length names → n < length names → m ≢ n → slice_index_or names m [] ≡ slice_index_or names n [] → ⊥
+pub names_differ : (names : List (List ℕ)) (m n : ℕ) → are_apart names ≡ true → m < length names → n < length names → m ≢ n → slice_index_or names m [] ≡ slice_index_or names n [] → ⊥
 names_differ [] m n apart lt below other same = absurd (omega (arith, lt))
 names_differ (x ∷ xs) zero zero apart lt below other same = other refl
 names_differ (x ∷ xs) zero (suc n) apart lt below other same =

@@ -48,7 +48,7 @@ keyed_after n key r next h keyed =
     }
 
 module _ (job : Job) (law : DependsOnInput job.program) where
-  step_keeps : (site : CommandPlace) (t : Target) (x : Option ℕ) (q : Recorded (List Step)) → IsOrdered q.course → IsPlace x (course_world q.course) → KeepsKeys q.course (stepped app job.program site t x q).course
+  pub step_keeps : (site : CommandPlace) (t : Target) (x : Option ℕ) (q : Recorded (List Step)) → IsOrdered q.course → IsPlace x (course_world q.course) → KeepsKeys q.course (stepped app job.program site t x q).course
   step_keeps site t x q ordered place =
       let p = job.program in
       let s = own_step p law site t x q.course in
@@ -61,7 +61,7 @@ module _ (job : Job) (law : DependsOnInput job.program) where
       in
       subst (λ (r : Recorded (List Step)). KeepsKeys q.course r.course) (sym (stepped_is p law site t x q.course q.seen place)) keeps
 
-  unless_keeps : (b : Bool) (q next : Recorded (List Step)) → IsOrdered q.course → KeepsKeys q.course next.course → KeepsKeys q.course (unless_stopped b q next).course
+  pub unless_keeps : (b : Bool) (q next : Recorded (List Step)) → IsOrdered q.course → KeepsKeys q.course next.course → KeepsKeys q.course (unless_stopped b q next).course
   unless_keeps true q next ordered h = kept_keys q.course ordered
   unless_keeps false q next ordered h = h
 
@@ -75,7 +75,7 @@ module _ (job : Job) (law : DependsOnInput job.program) where
       let rest = subst (λ (c : ℕ). All (λ k. k < c) ms) (sym one.count) (All-tail (λ k. k < length q.course.entries) m ms below) in
       keeps_on q.course on.course (iterated app job.program site t ms on).course one (iterated_keeps site t ms on one.ordered rest)
 
-  action_keeps : (number line : ℕ) (a : Action) → is_read a ≡ false → (q : Recorded (List Step)) → IsOrdered q.course → KeepsKeys q.course (carried_out app job number line a q).course
+  pub action_keeps : (number line : ℕ) (a : Action) → is_read a ≡ false → (q : Recorded (List Step)) → IsOrdered q.course → KeepsKeys q.course (carried_out app job number line a q).course
   action_keeps number line Entries less q ordered = kept_keys q.course ordered
   action_keeps number line (Execute t) less q ordered = step_keeps (site_of job number line) t None q ordered tt
   action_keeps number line (Function n) less q ordered = kept_keys q.course ordered

@@ -15,7 +15,7 @@ pub mod MarkLemmas
 pub mod FindingLemmas
 pub mod AlikeLemmas
 pub mod UnseenLemmas
-pub mod IndexLemmas
+pub mod StepNameLemmas
 pub mod BesideLemmas
 pub mod OrderStaysLemmas
 pub mod BesideSortLemmas
@@ -33,6 +33,8 @@ pub mod BesideFilesLemmas
 pub mod OnlyReadLemmas
 pub mod BesideNumbersLemmas
 pub mod KeepKeysLemmas
+pub mod ChangedEntryLemmas
+pub mod DistinctNameLemmas
 pub mod BesideKeysLemmas
 pub mod WalkLemmas
 pub mod WalkOrderLemmas
@@ -42,4 +44,3 @@ pub mod NewRunLemmas
 pub mod WalkedRunLemmas
 pub mod laws
 mod rows
-pub mod ChangedEntryLemmas

@@ -31,6 +31,7 @@ use Rattle.bt_run.specs.inner.Put.{AreShown, GoesOver, IsPutBeside}
 use Rattle.bt_run.specs.inner.Follow.{IsNewRun, IsReportOf, IsStill}
 use Rattle.bt_run.specs.inner.Unseen.{AreOtherwise, AreTextsOf, IsRunOf}
 use Rattle.bt_run.specs.inner.Walk.{IsWalkFrom, IsWalkedOut, with_steps}
+use Rattle.bt_run.proofs.DistinctNameLemmas.{run_names_distinct}
 use Rattle.bt_run.proofs.AnswerLemmas.{kept_text}
 use Rattle.bt_run.proofs.BesideMeaningLemmas.{run_meaning, run_trace}
 use Rattle.bt_run.proofs.ChangedEntryLemmas.{cited_apart, finds_other}
@@ -153,6 +154,7 @@ module _ (h : Change) (run : Run) (p : Program) (known : IsAskedOfRun h run p) w
       begins = refl;
       other = λ k at. subst (λ (j : KeptResolution). IsChangedEntry j new.place walk.d) (some_found walk.k k (sym walk.is ∙ at)) walk.other;
       walked = walked;
+      named = run_names_distinct files root h.min us trace_now;
     }
 
     report_so : (r : Report) → IsReportOf new (length run.kept.steps) r → r ≡ report_after run.kept.text run.kept.steps files root h.min

@@ -26,7 +26,7 @@ pub order_more : (order next : List ℕ) (n : ℕ) → order ≡ range_with_len 
 order_more order next n is more = more ∙ ap (λ ks. ks ++ n ∷ []) is ∙ sym (range_more n)
 
 -- the places of so many are below it
-range_below : (a n most : ℕ) → a + n ≡ most → All (λ k. k < most) (range_with_len a n)
+pub range_below : (a n most : ℕ) → a + n ≡ most → All (λ k. k < most) (range_with_len a n)
 range_below a zero most h = All-nil (λ k. k < most)
 range_below a (suc n) most h = All-cons (λ k. k < most) a (range_with_len (a + 1) n) (omega (arith, h)) (range_below (a + 1) n most (omega (arith, h)))
 

@@ -25,7 +25,7 @@ use Rattle.bt_machine.proofs.Comparing.{compared_tells}
 use Rattle.bt_run.specs.declared.course.Step.{Step}
 use Rattle.bt_run.specs.declared.reuse.Reuse.{Reuse}
 use Rattle.bt_run.specs.Reached.{names_in}
-use Rattle.bt_run.specs.inner.Index.{IsIndex}
+use Rattle.bt_run.specs.inner.Names.{IsIndex}
 use Rattle.bt_run.specs.Work.{IsStep, same_key, agrees_with, was_done, work_under}
 use Rattle.bt_run.specs.Course.{key_in}
 use Rattle.bt_run.specs.inner.Work.{IsLike, IsKnown, step_now, IsCounted, IsNext}
@@ -88,7 +88,7 @@ and_last false b c h = absurd cc
 same_number : (a b : ℕ) → a ≡ b → (a == b) ≡ true
 same_number a b h = grind (arith, nat_tests)
 
-number_same : (a b : ℕ) → (a == b) ≡ true → a ≡ b
+pub number_same : (a b : ℕ) → (a == b) ≡ true → a ≡ b
 number_same a b h = grind (arith, nat_tests)
 
 key_itself : (k : Option (List ℕ)) → same_key k k ≡ true

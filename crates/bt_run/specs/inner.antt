@@ -1,6 +1,7 @@
 -- What only helpers, loops and proofs need: no part of the meaning.
 pub mod Course
 pub mod Index
+pub mod Names
 pub mod Earlier
 pub mod Calls
 pub mod Turn

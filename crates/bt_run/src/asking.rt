@@ -7,7 +7,7 @@ ghost use Rattle.bt_run.specs.inner.Asked.{question_for, question_of, with_datab
 
 use crate::declarations::declared_before;
 use crate::job::{Job, shared_text};
-use crate::reused_step::is_same_place;
+use crate::reused_step::is_same_number;
 use bt_job::File;
 use bt_resolve::{Cites, Declared, Question};
 use bt_text::{Bytes, Sequence, Shared, are_same};
@@ -47,11 +47,11 @@ fn shared_cites(cites: &Cites) -> Result<Cites, AllocError>
 
 impl Asking {
     /// What READ asks at the command of this number.
-    pub fn at(alloc: Global, job: Job<'_>, number: usize) -> Result<Asking, AllocError>
+    pub fn at(job: Job<'_>, number: usize) -> Result<Asking, AllocError>
         ensures { IfOk result (λ asking. question_of asking ≡ question_for (job_of job.entry) number) }
     {
-        let declared = declared_before(alloc, job.style, number)?;
-        let texts = texts_in(alloc, job.files, job.databases)?;
+        let declared = declared_before(job.alloc, job.style, number)?;
+        let texts = texts_in(job.alloc, job.files, job.databases)?;
         Ok(Asking {
             declared,
             cites: shared_cites(job.cites)?,
@@ -82,5 +82,5 @@ pub fn is_same_declared(declared: &Declared, other: &Declared) -> bool
 pub fn is_same_cites(cites: &Cites, other: &Cites) -> bool
     ensures { IsTrue result → cites.now ≡ other.now }
 {
-    is_same_place(cites.star, other.star) && are_same(cites.keys.as_slice(), other.keys.as_slice())
+    is_same_number(cites.star, other.star) && are_same(cites.keys.as_slice(), other.keys.as_slice())
 }

@@ -71,8 +71,7 @@ fn sum_of(lengths: &[usize]) -> usize {
     sum
 }
 
-/// What steps have written. The steps of the previous run wrote parts of the lengths `before`, so this makes room for as
-/// many bytes at once.
+/// What steps have written. It asks at once for as many bytes as the previous run's steps wrote (`before`: how many each).
 pub fn bbl_of(
     alloc: Global,
     steps: &[Shared<Step>],
@@ -92,8 +91,8 @@ pub fn bbl_of(
     })
 }
 
-/// The end of the part of a text that begins here and consists of parts of these lengths. The text's length, `len`, is for
-/// the proof alone: so the sum can't overflow.
+/// Where parts of these lengths end, if the first one begins at `begin`. They lie in a text of length `len`, so the sum can't
+/// overflow: only the proof needs `len`.
 fn end_of(begin: usize, lengths: &[usize], len: usize) -> usize
     requires { begin + sum lengths.now ≤ len }
     ensures { result ≡ begin + sum lengths.now }

@@ -20,13 +20,15 @@ use bt_style::{Style, StyleRefusal};
 use bt_text::{Bytes, Shared, equal_bytes};
 use std::alloc::{AllocError, Global};
 
-/// The files before and after an edit of one of them; the root and the least number of references of both.
+/// A change of one file's text; all other files stay. The root and min-crossrefs are the same before and after it.
 #[derive(Clone, Copy)]
 pub struct Change<'a> {
     pub alloc: Global,
     /// The name of the file that changes.
     pub name: &'a [u8],
+    /// The files before the change.
     pub was: &'a [File],
+    /// The files after it.
     pub files: &'a [File],
     pub root: &'a [u8],
     pub min: u32,
@@ -122,7 +124,7 @@ impl KeptResolution {
         true
     }
 
-    /// Whether its edit is that of the only database of the changed file, and makes that file's new text.
+    /// Whether the kept edit makes the new text of the changed file, and that file is one database and no other.
     fn has_edit_to(&self, change: Change<'_>, names: &[Bytes]) -> bool
         ensures { IsTrue result → ForSome self.now.edit (λ edit.
             (text_in change.entry.files.now change.entry.name.now ≡ edit.text) × IsOnlyAt change.entry.name.now edit.number names.now) }
@@ -134,7 +136,7 @@ impl KeptResolution {
             && is_only_at(change.name, edit.number, names)
     }
 
-    /// Whether each READ of a style asks what was asked, but perhaps of other databases.
+    /// Whether each READ of a style asks what was asked. The databases may be others.
     fn is_asked(
         &self,
         change: Change<'_>,
@@ -183,6 +185,16 @@ impl KeptResolution {
 }
 
 impl Kept {
+    /// Whether it is known what the kept edit changes. (This is asked before the texts are compared, which takes longer.)
+    fn knows_edit(&self) -> bool {
+        if let Some(kept) = &self.resolution
+            && let Some(edit) = &kept.edit
+        {
+            return edit.made.is_some();
+        }
+        false
+    }
+
     fn has_texts_of(&self, files: &[File], root: &[u8]) -> bool
         ensures { IsTrue result → ForSome self.now.resolution (AreFilesOf files.now root.now) }
     {
@@ -195,7 +207,7 @@ impl Kept {
         kept.has_texts(files, citations.databases.as_slice())
     }
 
-    /// Whether READ found what is kept in the texts of these files, and notes it.
+    /// Whether READ found what is kept in the texts of these files. If so, that is noted, so the texts are compared once.
     pub fn is_found_in(&mut self, files: &[File], root: &[u8]) -> bool
         requires { AreTextsOf files.now root.now self.old }
         ensures same { self.new ≡ record self.old { is_present = self.new.is_present } }
@@ -218,7 +230,7 @@ impl Kept {
         ensures rest { self.new ≡ record self.old { is_present = self.new.is_present; readings = self.new.readings } }
         ensures texts { AreTextsOf change.entry.was.now change.entry.root.now self.new }
     {
-        if !self.is_own || !self.is_found_in(change.was, change.root) {
+        if !self.is_own || !self.knows_edit() || !self.is_found_in(change.was, change.root) {
             return Ok(None);
         }
         let Some(kept) = &self.resolution else {

@@ -4,7 +4,7 @@ ghost use Rattle.std.specs.Prelude.{◌≡◌, ◌<◌, ℕ, IfSome, IsTrue, Som
 ghost use Rattle.bt_run.specs.inner.ChangedEntry.{IsChangedEntry};
 
 use crate::kept_resolution::KeptResolution;
-use crate::reused_step::is_same_place as is_same_number;
+use crate::reused_step::is_same_number;
 use crate::same_messages::are_same_messages;
 use bt_resolve::{Entry, OtherEntries, Resolved, SeenEdit};
 use bt_text::equal_bytes;

@@ -44,31 +44,25 @@ fn sorted_again(
     }
 }
 
-fn sort(alloc: Global, job: Job<'_>, course: &mut Course) -> Result<(), AllocError>
+fn sort(job: Job<'_>, course: &mut Course) -> Result<(), AllocError>
     requires { IsOrdered course.old }
     ensures { OnOk result (course.new ≡ sorted_run course.old) }
 {
-    course.order = sorted_again(alloc, job.earlier, course)?;
+    course.order = sorted_again(job.alloc, job.earlier, course)?;
     Ok(())
 }
 
-fn site_of(
-    alloc: Global,
-    job: Job<'_>,
-    number: usize,
-    line: usize,
-) -> Result<CommandPlace, AllocError>
+fn site_of(job: Job<'_>, number: usize, line: usize) -> Result<CommandPlace, AllocError>
     ensures { IfOk result (λ site. site ≡ site_of (job_of job.entry) number line) }
 {
     Ok(CommandPlace {
-        style: Shared::<Bytes>::copied(alloc, job.name)?,
+        style: Shared::<Bytes>::copied(job.alloc, job.name)?,
         command: number,
         line,
     })
 }
 
 fn carry_out<R: Recorder>(
-    alloc: Global,
     job: Job<'_>,
     number: usize,
     command: Command,
@@ -92,23 +86,23 @@ fn carry_out<R: Recorder>(
         | Action::Macro(_)
         | Action::Strings => Ok(()),
         Action::Execute(target) => {
-            let site = &site_of(alloc, job, number, command.line)?;
-            recorder.take_step(StepCommand { alloc, job, site }, target, None, course)
+            let site = &site_of(job, number, command.line)?;
+            recorder.take_step(StepCommand { job, site }, target, None, course)
         }
         Action::Iterate(target) => {
-            let site = &site_of(alloc, job, number, command.line)?;
-            StepCommand { alloc, job, site }.iterate(target, course, recorder)
+            let site = &site_of(job, number, command.line)?;
+            StepCommand { job, site }.iterate(target, course, recorder)
         }
         Action::Reverse(target) => {
-            let site = &site_of(alloc, job, number, command.line)?;
-            StepCommand { alloc, job, site }.reverse(target, course, recorder)
+            let site = &site_of(job, number, command.line)?;
+            StepCommand { job, site }.reverse(target, course, recorder)
         }
         Action::Read => {
-            recorder.read(alloc, job, number, course)?;
+            recorder.read(job, number, course)?;
             Ok(())
         }
         Action::Sort => {
-            sort(alloc, job, course)?;
+            sort(job, course)?;
             Ok(())
         }
     }
@@ -117,7 +111,6 @@ fn carry_out<R: Recorder>(
 /// Carries out a style's commands in order, up to a step that stops the run. After out of memory the course is that of
 /// the commands and steps before it, with perhaps a part of the next one; `answers_after` drops it.
 pub fn run_commands<R: Recorder>(
-    alloc: Global,
     job: Job<'_>,
     course: &mut Course,
     recorder: &mut R,
@@ -130,14 +123,13 @@ pub fn run_commands<R: Recorder>(
     ensures ready { OnOk result (R.ready recorder.new job.entry (course_world course.new)) }
 {
     'commands: for (number, command) in job.style.commands.as_slice().iter().enumerate() {
-        carry_out(alloc, job, number, *command, course, recorder)?;
+        carry_out(job, number, *command, course, recorder)?;
     }
     Ok(())
 }
 
 /// Carries out a style's commands after a log.
 pub fn run_style<R: Recorder>(
-    alloc: Global,
     job: Job<'_>,
     log: Sequence<Message>,
     recorder: &mut R,
@@ -149,8 +141,8 @@ pub fn run_style<R: Recorder>(
     ensures ordered { IfOk result (λ course. IsOrdered course) }
     ensures ready { IfOk result (λ course. R.ready recorder.new job.entry (course_world course)) }
 {
-    let globals = first_globals(alloc, job.style)?;
-    let mut course = begin(alloc, globals, log)?;
-    run_commands(alloc, job, &mut course, recorder)?;
+    let globals = first_globals(job.alloc, job.style)?;
+    let mut course = begin(job.alloc, globals, log)?;
+    run_commands(job, &mut course, recorder)?;
     Ok(course)
 }

@@ -83,8 +83,9 @@ impl Run {
         report
     }
 
-    /// Makes this the run of the files after a change, if the style sees nothing of the change or only one changed entry,
-    /// and returns the report. Otherwise, and after out of memory, answers, style text and steps stay.
+    /// Makes this the run of the files after a change, and returns its report, if the style sees nothing of the change or
+    /// only one changed entry. Returns None if a whole run must begin. The only error is out of memory. After None or an error,
+    /// answers, style text and steps are unchanged.
     pub fn follow(&mut self, change: Change<'_>) -> Result<Option<Report>, AllocError>
         requires run { IsRunOf change.was.now change.root.now change.min self.old }
         requires texts { AreTextsOf change.was.now change.root.now self.old.kept }

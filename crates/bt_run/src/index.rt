@@ -1,13 +1,14 @@
 //! The places of earlier steps, found by hashing.
 
-ghost use Rattle.std.specs.Prelude.{◌≡◌, ◌++◌, [], ◌∷◌, IfOk, OnOk, option_copied, unwrap_or, if◌then◌else◌};
+ghost use Rattle.std.specs.Prelude.{◌≡◌, IfOk};
 ghost use Rattle.std.proofs.Common.{rules};
 ghost use Rattle.std.specs.Cmp.Rules.{comparing, hashing};
-ghost use Rattle.bt_run.specs.inner.Index.{key_or_none, same_name, name_writes, step_name, places_at, IsIndex};
+ghost use Rattle.bt_run.specs.inner.Index.{key_or_none, same_name, name_writes, step_name, place_at};
+ghost use Rattle.bt_run.specs.inner.Names.{IsIndex};
 
 use crate::course::Step;
 use bt_machine::Input;
-use bt_text::{Bytes, Sequence, Shared};
+use bt_text::{Bytes, Shared};
 use std::alloc::{AllocError, Global};
 use std::collections::HashMap;
 use std::hash::{Hash, Hasher};
@@ -65,39 +66,14 @@ impl StepName {
     }
 }
 
-/// The places of steps, by the command and the key of each. A command takes one step for a key, so a name has few
-/// places.
+/// The place of each step, by its name.
 #[derive(Drop)]
 pub struct Index {
-    places: HashMap<StepName, Sequence<usize>>,
-}
-
-fn with_place(
-    alloc: Global,
-    places: Option<&Sequence<usize>>,
-    place: usize,
-) -> Result<Sequence<usize>, AllocError>
-    ensures { IfOk result (λ more. more ≡ unwrap_or (option_copied places.entry) [] ++ place ∷ []) }
-{
-    let mut more = match places {
-        None => Vec::new(alloc),
-        Some(places) => Vec::from_slice(alloc, places.as_slice())?,
-    };
-    more.push(place)?;
-    Ok(Sequence::from_vec(more))
+    places: HashMap<StepName, usize>,
 }
 
 impl Index {
-    fn add(&mut self, alloc: Global, name: StepName, place: usize) -> Result<(), AllocError>
-        ensures { OnOk result ((other : StepName) → places_at self.new other
-            ≡ (if same_name name other then places_at self.old name ++ place ∷ [] else places_at self.old other)) }
-    {
-        let places = with_place(alloc, self.places.get(&name), place)?;
-        self.places.insert(name, places)?;
-        Ok(())
-    }
-
-    /// The places of these steps.
+    /// The places of these steps. The only error is out of memory.
     pub fn of(alloc: Global, steps: &[Shared<Step>]) -> Result<Index, AllocError>
         ensures { IfOk result (λ index. IsIndex steps.now index) }
     {
@@ -106,19 +82,16 @@ impl Index {
         };
         'steps: for (place, step) in steps.iter().enumerate() {
             let name = StepName::of(step.command, &step.input)?;
-            index.add(alloc, name, place)?;
+            index.places.insert(name, place)?;
         }
         Ok(index)
     }
 
-    /// The places at which a step of this command can be, if its input has the same key.
-    pub fn places(&self, command: usize, input: &Input) -> Result<&[usize], AllocError>
-        ensures { IfOk result (λ places. places.now ≡ places_at self.now (step_name command input.now)) }
+    /// The place of the step of this command whose input has the same key. The only error is out of memory.
+    pub fn place(&self, command: usize, input: &Input) -> Result<Option<usize>, AllocError>
+        ensures { IfOk result (λ place. place ≡ place_at self.now (step_name command input.now)) }
     {
         let name = StepName::of(command, input)?;
-        match self.places.get(&name) {
-            None => Ok(&[]),
-            Some(places) => Ok(places.as_slice()),
-        }
+        Ok(self.places.get(&name).copied())
     }
 }

@@ -17,6 +17,7 @@ use std::alloc::{AllocError, Global};
 /// What a run reads.
 #[derive(Clone, Copy)]
 pub struct Job<'a> {
+    pub alloc: Global,
     pub files: &'a [File],
     pub cites: &'a Cites,
     pub databases: &'a [Bytes],

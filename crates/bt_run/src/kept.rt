@@ -7,6 +7,7 @@ ghost use Rattle.bt_run.specs.Steps.{StepsAre};
 ghost use Rattle.bt_run.specs.inner.Course.{IsArranged};
 ghost use Rattle.std.specs.Option.{ForSome, option_map};
 ghost use Rattle.bt_run.specs.inner.Marks.{AreMarked};
+ghost use Rattle.bt_run.specs.inner.Names.{HaveDistinctNames};
 ghost use Rattle.bt_run.specs.inner.Turn.{AreInTurn};
 ghost use Rattle.bt_run.specs.inner.Calls.{AreCalls};
 ghost use Rattle.bt_run.specs.inner.Cases.{bytes_written};
@@ -37,8 +38,8 @@ pub struct Kept {
     pub resolution: Option<KeptResolution>,
     /// Whether READ found it in this run.
     pub is_own: bool,
-    /// Whether its databases are known to have the texts of the files of this run. Found out at the first edit that
-    /// `Run::follow` could do, because it compares all texts.
+    /// Whether its databases are known to have the texts of the files of this run. Finding out compares all texts, so it
+    /// is done only when `Run::follow` needs it.
     pub is_present: bool,
     /// How many bytes of the bibliography each step wrote.
     pub lengths: Sequence<usize>,
@@ -49,13 +50,14 @@ pub struct Kept {
     ghost arranged: { IsArranged (length entries) order },
     ghost called: { ForSome calls (AreCalls steps) },
     ghost in_turn: { AreInTurn steps },
+    ghost named: { HaveDistinctNames steps },
     ghost found: { AreFoundBy is_own resolution entries },
     ghost measured: { lengths ≡ map bytes_written steps },
 }
 
 impl Kept {
     /// Nothing. It takes no memory.
-    #[tactic(auto, using(crate::proofs::OrderLemmas::arranged_none, crate::proofs::TurnLemmas::none_in_turn, crate::proofs::MarkLemmas::none_marked))]
+    #[tactic(auto, using(crate::proofs::OrderLemmas::arranged_none, crate::proofs::TurnLemmas::none_in_turn, crate::proofs::DistinctNameLemmas::none_named, crate::proofs::MarkLemmas::none_marked))]
     pub fn nothing(alloc: Global) -> Kept
         ensures text { result.text ≡ None }
         ensures steps { result.steps ≡ [] }
@@ -117,8 +119,8 @@ impl Kept {
     }
 }
 
-/// The run before, and nothing, which takes its place if that run had another style. (A function that makes nothing itself
-/// takes long to prove, because each of its exits drops it.)
+/// The run before, and nothing, which takes its place if that run had another style. (A function that made
+/// `nothing` itself would take long to prove, because each of its exits would drop it.)
 #[derive(Clone, Copy)]
 pub struct Before<'a> {
     pub kept: &'a Kept,

@@ -41,7 +41,8 @@ pub struct KeptResolution {
     ghost kept: { ForSome edit (KeepsPieces resolution) } by { Prim.hlevel (props, kept_prop) },
 }
 
-/// The resolution of a question about these texts. It begins with an earlier one. If that is of no use, it is dropped first.
+/// The resolution of a question about these texts. It reuses what it can of an earlier one. An earlier one that is of no use is
+/// dropped first, so the two aren't in memory at once.
 fn resolution_after(
     alloc: Global,
     earlier: Option<KeptResolution>,

@@ -163,9 +163,9 @@ impl KeptSteps {
         // Read for the proof alone: its length fits 64 bits, so that the count of the steps that were carried out can't
         // overflow.
         let _steps = self.steps.len();
-        let StepCommand { alloc, job, site } = command;
+        let StepCommand { job, site } = command;
         let next = StepToTake {
-            alloc,
+            alloc: job.alloc,
             style: job.style,
             earlier: job.earlier,
             command: site.command,
@@ -173,7 +173,7 @@ impl KeptSteps {
         };
         let Done { outcome, cost } = next.take_over_or_carry_out(&mut self.reuse)?;
         let made = Step::of(site.command, input, outcome, cost)?;
-        let step = Shared::new(alloc, made)?;
+        let step = Shared::new(job.alloc, made)?;
         Ok(step)
     }
 
@@ -209,7 +209,7 @@ impl KeptSteps {
                 })
             }
             None => {
-                let input = cut_out(command.alloc, course, target, place)?;
+                let input = cut_out(command.job.alloc, course, target, place)?;
                 let tag = tag_of(command.site.command, &input);
                 let step = self.make_step(command, input, course)?;
                 Ok(Next {
@@ -237,23 +237,17 @@ impl Recorder for KeptSteps {
     ghost ready = { λ s job w. IsConsistent (program_of job.style.now) job.earlier.now w s };
 
     /// Also notes which entries the earlier run has at the same place. (Steps before READ have no entry.)
-    fn read(
-        &mut self,
-        alloc: Global,
-        job: Job<'_>,
-        number: usize,
-        course: &mut Course,
-    ) -> Result<(), AllocError> {
-        let found = read(alloc, job, number, course, &mut self.resolution)?;
+    fn read(&mut self, job: Job<'_>, number: usize, course: &mut Course) -> Result<(), AllocError> {
+        let found = read(job, number, course, &mut self.resolution)?;
         let alike = found.when(self.is_earlier);
         let same = same_entries(
-            alloc,
+            job.alloc,
             job.earlier.entries.as_slice(),
             course.entries.as_slice(),
             &alike,
         )?;
         drop(alike);
-        let marks = marks_of(alloc, self.steps.as_slice())?;
+        let marks = marks_of(job.alloc, self.steps.as_slice())?;
         self.marks = marks;
         self.same = same;
         self.is_own = true;

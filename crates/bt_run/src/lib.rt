@@ -5,6 +5,7 @@
 mod alike;
 mod answers;
 mod asking;
+mod beginning;
 mod bibliography;
 mod change;
 mod changed_entry;

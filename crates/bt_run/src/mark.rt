@@ -6,6 +6,7 @@
 ghost use Rattle.std.specs.Prelude.{◌≡◌, ◌<◌, IfOk, IsTrue, map};
 ghost use Rattle.bt_run.specs.Course.{key_in};
 ghost use Rattle.bt_run.specs.inner.Earlier.{IsSameAt};
+ghost use Rattle.bt_run.specs.inner.Index.{key_or_none};
 ghost use Rattle.bt_run.specs.inner.Marks.{bare_mark, tag_from, tag_of};
 
 use crate::course::Step;
@@ -48,15 +49,21 @@ fn tag_from(first: u64, bytes: &[u8]) -> u64
     tag
 }
 
+/// The key of an input's entry; nothing where there is none.
+pub fn key_or_none(input: &Input) -> &[u8]
+    ensures { result.now ≡ key_or_none (key_in input.now) }
+{
+    match &input.entry {
+        None => &[],
+        Some(entry) => entry.key.as_slice(),
+    }
+}
+
 /// The tag of a step of this command with this input.
 pub fn tag_of(command: usize, input: &Input) -> u64
     ensures { result ≡ tag_of command (key_in input.now) }
 {
-    let first = command as u64 % TAGS;
-    match &input.entry {
-        None => first,
-        Some(entry) => tag_from(first, entry.key.as_slice()),
-    }
+    tag_from(command as u64 % TAGS, key_or_none(input))
 }
 
 /// The marks of steps for no entry.

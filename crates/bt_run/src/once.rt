@@ -24,18 +24,17 @@ use bt_text::{Bytes, Sequence, Shared};
 use std::alloc::{AllocError, Global};
 
 fn show_style(
-    alloc: Global,
     job: Job<'_>,
     log: Sequence<Message>,
     wanted: Sequence<Bytes>,
 ) -> Result<Answers, AllocError>
     ensures { IfOk result (λ answers. meaning_of answers ≡ run_shown (style_run (job_of job.entry) log) wanted) }
 {
-    let mut written = WrittenSteps::none(alloc, job.style)?;
-    let mut course = run_style(alloc, job, log, &mut written)?;
-    tell_counts(alloc, &mut course.log, &written.calls)?;
+    let mut written = WrittenSteps::none(job.alloc, job.style)?;
+    let mut course = run_style(job, log, &mut written)?;
+    tell_counts(job.alloc, &mut course.log, &written.calls)?;
     let Course { log, entries, .. } = course;
-    let answers = show(alloc, written.bbl, log, wanted)?;
+    let answers = show(job.alloc, written.bbl, log, wanted)?;
     Ok(answers.with_spent(entries))
 }
 
@@ -72,6 +71,7 @@ fn show_asked(
     match read_style(alloc, text.as_slice()) {
         Ok(style) => {
             let job = Job {
+                alloc,
                 files,
                 cites: &cites,
                 databases: names.as_slice(),
@@ -80,7 +80,7 @@ fn show_asked(
                 style: &style,
                 earlier: nothing,
             };
-            let answers = show_style(alloc, job, log, wanted)?;
+            let answers = show_style(job, log, wanted)?;
             Ok(answers)
         }
         Err(StyleRefusal::Fault { kind, line }) => {

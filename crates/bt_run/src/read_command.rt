@@ -27,7 +27,6 @@ use std::alloc::{AllocError, Global};
 
 /// Finds what READ asks, and returns which entries of what it found before stay.
 fn find_for(
-    alloc: Global,
     job: Job<'_>,
     number: usize,
     kept: &mut Option<KeptResolution>,
@@ -36,16 +35,16 @@ fn find_for(
     ensures alike { IfOk result (λ alike. (was : Question) → IsKept kept.old was →
         IsAlike alike (resolved_for was) (resolved_for (question_for (job_of job.entry) number))) }
 {
-    let asking = Asking::at(alloc, job, number)?;
-    let alike = find(alloc, asking, kept)?;
+    let asking = Asking::at(job, number)?;
+    let alike = find(job.alloc, asking, kept)?;
     Ok(alike)
 }
 
-fn found(alloc: Global, job: Job<'_>, number: usize) -> Result<Resolved, AllocError>
+fn found(job: Job<'_>, number: usize) -> Result<Resolved, AllocError>
     ensures { IfOk result (λ all. all ≡ found_for (job_of job.entry) number) }
 {
-    let asking = Asking::at(alloc, job, number)?;
-    let all = resolve_asked(alloc, &asking)?;
+    let asking = Asking::at(job, number)?;
+    let all = resolve_asked(job.alloc, &asking)?;
     Ok(all)
 }
 
@@ -112,20 +111,15 @@ fn list_order(alloc: Global, entries: &[Entry]) -> Result<Sequence<usize>, Alloc
 
 /// Puts into a run what the databases give: the entries with their variables, the list order, the preamble, and what is
 /// reported.
-fn enter(
-    alloc: Global,
-    job: Job<'_>,
-    found: &Resolved,
-    course: &mut Course,
-) -> Result<(), AllocError>
+fn enter(job: Job<'_>, found: &Resolved, course: &mut Course) -> Result<(), AllocError>
     ensures { OnOk result (course.new
         ≡ read_in (program_of job.entry.style.now) job.entry.databases.now found.now course.old) }
 {
     let messages = found.messages.as_slice();
-    tell_databases(alloc, &mut course.log, job.databases, messages)?;
-    let entries = all_entered(alloc, job.style, found.entries.as_slice())?;
+    tell_databases(job.alloc, &mut course.log, job.databases, messages)?;
+    let entries = all_entered(job.alloc, job.style, found.entries.as_slice())?;
     let preamble = found.preamble.share()?;
-    course.order = list_order(alloc, entries.as_slice())?;
+    course.order = list_order(job.alloc, entries.as_slice())?;
     course.entries = entries;
     course.preamble = preamble;
     Ok(())
@@ -133,7 +127,6 @@ fn enter(
 
 /// Reads the databases. What READ finds is kept. Returns which entries of what it found before stay.
 pub fn read(
-    alloc: Global,
     job: Job<'_>,
     number: usize,
     course: &mut Course,
@@ -144,26 +137,21 @@ pub fn read(
     ensures alike { IfOk result (λ alike. (was : Question) → IsKept kept.old was →
         IsAlike alike (resolved_for was) (resolved_for (question_for (job_of job.entry) number))) }
 {
-    let alike = find_for(alloc, job, number, kept)?;
+    let alike = find_for(job, number, kept)?;
     match kept {
         None => Ok(alike),
         Some(kept) => {
-            enter(alloc, job, kept.resolution.resolved(), course)?;
+            enter(job, kept.resolution.resolved(), course)?;
             Ok(alike)
         }
     }
 }
 
 /// Reads the databases for a run that keeps nothing of what they give.
-pub fn read_once(
-    alloc: Global,
-    job: Job<'_>,
-    number: usize,
-    course: &mut Course,
-) -> Result<(), AllocError>
+pub fn read_once(job: Job<'_>, number: usize, course: &mut Course) -> Result<(), AllocError>
     ensures { OnOk result (course.new ≡ read (job_of job.entry) number course.old) }
 {
-    let all = found(alloc, job, number)?;
-    enter(alloc, job, &all, course)?;
+    let all = found(job, number)?;
+    enter(job, &all, course)?;
     Ok(())
 }

@@ -4,7 +4,7 @@ use crate::course::Course;
 use crate::job::Job;
 use crate::step_command::StepCommand;
 use bt_style::Target;
-use std::alloc::{AllocError, Global};
+use std::alloc::AllocError;
 
 /// Takes the steps of a run, and keeps of them what it needs.
 pub trait Recorder {
@@ -31,13 +31,7 @@ pub trait Recorder {
     ghost ready: { Self → JobSeen → World → Type 0 };
 
     /// READ. After out of memory nothing is said of the course.
-    fn read(
-        &mut self,
-        alloc: Global,
-        job: Job<'_>,
-        number: usize,
-        course: &mut Course,
-    ) -> Result<(), AllocError>
+    fn read(&mut self, job: Job<'_>, number: usize, course: &mut Course) -> Result<(), AllocError>
         requires { ready self.old job (course_world course.old) }
         ensures run { OnOk result (course.new ≡ read (job_of job.entry) number course.old) }
         ensures seen { OnOk result (seen self.new ≡ seen self.old) }

@@ -16,12 +16,12 @@ pub struct KnownReach {
     pub reach: Shared<Reach>,
 }
 
-/// How an earlier step is found that isn't at the place to try next.
+/// How to find an earlier step that isn't at the cursor.
 #[derive(Drop)]
 pub struct Lookup {
-    /// How often all of them were scanned.
+    /// How often the marks were scanned.
     pub scans: usize,
-    /// Their places, computed once they have been scanned often.
+    /// The places of the earlier steps by name, made after `SCANS` scans.
     pub index: Option<Index>,
 }
 
@@ -32,7 +32,8 @@ pub struct Reuse {
     pub meter: Meter,
     /// How many steps ran; those that were reused don't count.
     pub ran: u128,
-    /// The place after the earlier step that was reused last.
+    /// The cursor: the place of the earlier step to try next. Once a step of the same name is found, it is the place behind
+    /// that step, whether that one was reused or not.
     pub next: usize,
     pub lookup: Lookup,
     /// What the names of the style reach, as far as it was computed, each once.

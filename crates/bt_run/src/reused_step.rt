@@ -1,4 +1,7 @@
-//! A step of an earlier run is reused if it does the same.
+//! An earlier step is reused if it has the same command and agrees in everything that the new step can reach.
+//!
+//! A step's name is its command and its entry's key. No two steps of a run have the same name, because a command takes at most
+//! one step for each key. So at most one earlier step can agree.
 
 ghost use Rattle.std.specs.Prelude.{◌≡◌, ◌+◌, ◌<◌, ◌≤◌, ◌^◌, ◌↔◌, All, Contains, Some, IsTrue, IfOk, IfSome, OnOk, MatchOption, length};
 ghost use Rattle.std.specs.Option.{ForSome};
@@ -8,22 +11,22 @@ ghost use Rattle.bt_machine.specs.Step.{step_in, outcome_of};
 ghost use Rattle.bt_machine.specs.AgreementLaws.{IsFootprint, IsNextOutcome, outcome_over};
 ghost use Rattle.bt_run.specs.Course.{key_in};
 ghost use Rattle.bt_run.specs.Work.{IsStep};
-ghost use Rattle.bt_run.specs.inner.Index.{IsIndex};
 ghost use Rattle.bt_run.specs.inner.Marks.{tag_of};
-ghost use Rattle.bt_run.specs.inner.Work.{IsNoneAt, IsNone, IsMet, IsKnown, step_now, IsCounted, IsMarkedAt};
+ghost use Rattle.bt_run.specs.inner.Names.{IsIndex, IsNamedAt, IsUnnamed, named_at};
+ghost use Rattle.bt_run.specs.inner.Work.{IsUnlikeAt, AreUnlike, IsMet, IsKnown, step_now, IsCounted, IsMarkedAt, name_of};
 
 use crate::course::Step;
 use crate::index::Index;
 use crate::kept::Kept;
-use crate::mark::{Mark, tag_of};
+use crate::mark::{Mark, key_or_none, tag_of};
 use crate::reuse::{KnownReach, Lookup, Reuse};
 use bt_machine::{Input, Outcome, activate, agreeing_inputs_have_one_step, agrees, left_over};
 use bt_style::{Reach, Style, Target};
 use bt_text::{Sequence, Shared};
 use std::alloc::{AllocError, Global};
 
-/// How often all earlier steps are scanned before an index of them is made, which takes much longer than one scan.
-pub const SCANS: usize = 16;
+/// How often the marks of all earlier steps are scanned before an index is made, which takes much longer than one scan.
+const SCANS: usize = 16;
 
 /// What a step left, and its cost.
 #[derive(Drop)]
@@ -34,8 +37,8 @@ pub struct Done {
 
 // What is reached
 
-/// Whether two places, or none, are the same.
-pub fn is_same_place(one: Option<usize>, other: Option<usize>) -> bool
+/// Whether two numbers, or none, are the same.
+pub fn is_same_number(one: Option<usize>, other: Option<usize>) -> bool
     ensures { IsTrue result ↔ (one ≡ other) }
 {
     match (one, other) {
@@ -53,7 +56,7 @@ fn find_known(known: &[KnownReach], target: Target, function: Option<usize>) -> 
     ensures function { IfSome result (λ k. k.now.function ≡ function) }
 {
     'known: for one in known {
-        if one.target == target && is_same_place(one.function, function) {
+        if one.target == target && is_same_number(one.function, function) {
             return Some(one);
         }
     }
@@ -114,65 +117,40 @@ struct Sought<'a> {
     reach: &'a Reach,
 }
 
-#[derive(Clone, Copy)]
-struct Found<'a> {
-    place: usize,
-    step: &'a Step,
-}
-
-/// The step at a place, if it is one of this command and its input agrees with this one in what is reached.
-fn like_at<'a>(earlier: &'a [Shared<Step>], place: usize, sought: Sought<'_>) -> Option<Found<'a>>
-    ensures { MatchOption result (IsNoneAt sought.entry earlier.now place) (IsMet sought.entry earlier.now) }
+/// Whether the step at a place has the name of this one.
+fn is_named_at(earlier: &[Shared<Step>], place: usize, sought: Sought<'_>) -> bool
+    ensures { result ≡ named_at (name_of sought.entry) earlier.now place }
 {
-    let step: &Step = earlier.get(place)?;
-    if step.command == sought.command
-        && agrees(sought.style, &step.input, sought.input, sought.reach)
-    {
-        return Some(Found { place, step });
-    }
-    None
-}
-
-/// The first step at these places that is one of this command, and whose input agrees with this one in what is reached.
-fn find_like<'a>(
-    earlier: &'a [Shared<Step>],
-    places: &[usize],
-    sought: Sought<'_>,
-) -> Option<Found<'a>>
-    ensures { MatchOption result (All (IsNoneAt sought.entry earlier.now) places.now) (IsMet sought.entry earlier.now) }
-{
-    'places: for place in places {
-        if let Some(found) = like_at(earlier, *place, sought) {
-            return Some(found);
+    match earlier.get(place) {
+        None => false,
+        Some(step) => {
+            sought.command == step.command && key_or_none(sought.input) == key_or_none(&step.input)
         }
     }
-    None
 }
 
-/// The step at a place, if it is one of this command and its input agrees with this one in what is reached. A step with
-/// another tag isn't looked at.
-fn tagged_at<'a>(earlier: &'a Kept, place: usize, tag: u64, sought: Sought<'_>) -> Option<Found<'a>>
+/// Whether the step at a place has the name of this one. A step with another tag isn't looked at.
+fn is_found_at(earlier: &Kept, place: usize, tag: u64, sought: Sought<'_>) -> bool
     requires within { place < length earlier.now.marks }
     requires tag { tag ≡ tag_of sought.command (key_in sought.input.now) }
-    ensures { MatchOption result
-        (IsNoneAt sought.entry earlier.entry.now.steps place) (IsMet sought.entry earlier.entry.now.steps) }
+    ensures { result ≡ named_at (name_of sought.entry) earlier.now.steps place }
 {
     let mark = earlier.marks.as_slice()[place];
     if mark.tag != tag {
-        return None;
+        return false;
     }
-    like_at(earlier.steps.as_slice(), place, sought)
+    is_named_at(earlier.steps.as_slice(), place, sought)
 }
 
-/// The first step that is one of this command, and whose input agrees with this one in what is reached.
-fn find_anywhere<'a>(earlier: &'a Kept, sought: Sought<'_>) -> Option<Found<'a>>
+/// The place of the step of this name, found by looking at all marks.
+fn scan(earlier: &Kept, sought: Sought<'_>) -> Option<usize>
     ensures { MatchOption result
-        (IsNone sought.entry earlier.entry.now.steps) (IsMet sought.entry earlier.entry.now.steps) }
+        (IsUnnamed (name_of sought.entry) earlier.now.steps) (IsNamedAt (name_of sought.entry) earlier.now.steps) }
 {
     let tag = tag_of(sought.command, sought.input);
     'places: for place in 0..earlier.marks.len() {
-        if let Some(found) = tagged_at(earlier, place, tag, sought) {
-            return Some(found);
+        if is_found_at(earlier, place, tag, sought) {
+            return Some(place);
         }
     }
     None
@@ -193,54 +171,70 @@ fn index_of(
     }
 }
 
-/// The earlier step that agrees: mostly the one at the place to try next. If it isn't, all of them are scanned for one
-/// that does, and after `SCANS` scans an index finds it.
-fn meet<'a>(
+/// The place of the earlier step of this name. Usually it is at the cursor (`next`); otherwise the marks are scanned, and after
+/// `SCANS` scans an index is made.
+fn place_of(
     alloc: Global,
-    earlier: &'a Kept,
+    earlier: &Kept,
     next: usize,
     sought: Sought<'_>,
     lookup: &mut Lookup,
-) -> Result<Option<Found<'a>>, AllocError>
+) -> Result<Option<usize>, AllocError>
     requires { ForSome lookup.old.index (IsIndex earlier.now.steps) }
-    ensures met { IfOk result (λ met.
-        MatchOption met (IsNone sought.entry earlier.entry.now.steps) (IsMet sought.entry earlier.entry.now.steps)) }
+    ensures place { IfOk result (λ place. MatchOption place (IsUnnamed (name_of sought.entry) earlier.entry.now.steps)
+        (IsNamedAt (name_of sought.entry) earlier.entry.now.steps)) }
     ensures indexed { OnOk result (ForSome lookup.new.index (IsIndex earlier.entry.now.steps)) }
 {
     let steps = earlier.steps.as_slice();
-    if let Some(found) = like_at(steps, next, sought) {
-        return Ok(Some(found));
+    if is_named_at(steps, next, sought) {
+        return Ok(Some(next));
     }
     if lookup.scans < SCANS {
         lookup.scans += 1;
-        return Ok(find_anywhere(earlier, sought));
+        return Ok(scan(earlier, sought));
     }
     let made = index_of(alloc, steps, lookup.index.take())?;
-    let places = made.places(sought.command, sought.input)?;
-    let met = find_like(steps, places, sought);
+    let place = made.place(sought.command, sought.input)?;
     lookup.index = Some(made);
-    Ok(met)
+    Ok(place)
 }
 
-fn is_same_key(step: &Step, input: &Input) -> bool {
-    match (&step.key, &input.entry) {
-        (None, None) => true,
-        (Some(key), Some(entry)) => key.as_slice() == entry.key.as_slice(),
-        _ => false,
-    }
-}
-
-/// The place to try next if no step agrees: one further, if the step there has the same command and key.
-fn place_after(earlier: &[Shared<Step>], next: usize, sought: Sought<'_>) -> usize
-    ensures { result ≤ next + 1 }
+/// The step at a place, if it is one of this command and its input agrees with this one in what is reached.
+fn like_at<'a>(earlier: &'a [Shared<Step>], place: usize, sought: Sought<'_>) -> Option<&'a Step>
+    ensures { MatchOption result (IsUnlikeAt sought.entry earlier.now place) (λ step. IsMet sought.entry earlier.now step.now) }
 {
-    if next < earlier.len() {
-        let step = &earlier[next];
-        if step.command == sought.command && is_same_key(step, sought.input) {
-            return next + 1;
+    let step: &Step = earlier.get(place)?;
+    if step.command == sought.command
+        && agrees(sought.style, &step.input, sought.input, sought.reach)
+    {
+        return Some(step);
+    }
+    None
+}
+
+/// The earlier step of this name, if its input agrees in everything that is reached. If there is a step of this name, the
+/// cursor is then behind it, even if it disagrees.
+fn meet<'a>(
+    alloc: Global,
+    earlier: &'a Kept,
+    sought: Sought<'_>,
+    reuse: &mut Reuse,
+) -> Result<Option<&'a Step>, AllocError>
+    requires { ForSome reuse.old.lookup.index (IsIndex earlier.now.steps) }
+    ensures met { IfOk result (λ met. MatchOption met
+        (AreUnlike sought.entry earlier.entry.now.steps) (λ step. IsMet sought.entry earlier.entry.now.steps step.now)) }
+    ensures indexed { OnOk result (ForSome reuse.new.lookup.index (IsIndex earlier.entry.now.steps)) }
+    ensures rest { OnOk result (reuse.new ≡ record reuse.old { next = reuse.new.next; lookup = reuse.new.lookup }) }
+{
+    let found = place_of(alloc, earlier, reuse.next, sought, &mut reuse.lookup)?;
+    match found {
+        None => Ok(None),
+        Some(place) => {
+            let steps = earlier.steps.as_slice();
+            reuse.next = place + 1;
+            Ok(like_at(steps, place, sought))
         }
     }
-    next
 }
 
 // A step
@@ -321,22 +315,19 @@ impl StepToTake<'_> {
         agreeing_inputs_have_one_step();
         let known = reach_of(alloc, style, input, &mut reuse.known)?;
         let reach: &Reach = &known;
-        let steps = earlier.steps.as_slice();
         let sought = Sought {
             style,
             command,
             input,
             reach,
         };
-        let met = meet(alloc, earlier, reuse.next, sought, &mut reuse.lookup)?;
+        let met = meet(alloc, earlier, sought, reuse)?;
         match met {
-            Some(found) => {
-                reuse.next = found.place + 1;
-                let taken = take_over(alloc, found.step, input, reach)?;
+            Some(step) => {
+                let taken = take_over(alloc, step, input, reach)?;
                 Ok(taken)
             }
             None => {
-                reuse.next = place_after(steps, reuse.next, sought);
                 let ran = carry_out_step(alloc, style, input, reuse)?;
                 Ok(ran)
             }

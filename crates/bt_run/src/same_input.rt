@@ -9,7 +9,7 @@ ghost use Rattle.bt_run.specs.inner.Earlier.{fixed};
 ghost use Rattle.bt_run.specs.inner.Turn.{IsEntered, IsGiven};
 
 use crate::course::Course;
-use crate::reused_step::is_same_place;
+use crate::reused_step::is_same_number;
 use bt_actions::Entry;
 use bt_machine::{Input, equal_variables};
 use bt_style::Target;
@@ -23,7 +23,7 @@ pub fn equal_fixed(old: &Entry, new: &Entry) -> bool
     ensures { IsTrue result → fixed old.now ≡ fixed new.now }
 {
     equal_bytes(old.key.as_slice(), new.key.as_slice())
-        && is_same_place(old.function, new.function)
+        && is_same_number(old.function, new.function)
         && equal_bytes(old.kind.as_slice(), new.kind.as_slice())
         && old.fields.is_same(&new.fields)
 }

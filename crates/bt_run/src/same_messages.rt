@@ -2,7 +2,7 @@
 
 ghost use Rattle.std.specs.Prelude.{◌≡◌, IsTrue};
 
-use crate::reused_step::is_same_place as is_same_number;
+use crate::reused_step::is_same_number;
 use bt_log::{Message, Place, Said};
 use bt_text::{Bytes, Shared, equal_bytes};
 

@@ -41,7 +41,7 @@ fn keeps_entries(command: &Command) -> bool
     )
 }
 
-/// The first SORT from the command of one number on and before that of another.
+/// The first SORT among the commands from number `from` on and before number `before`.
 fn first_sort(commands: &[Command], from: usize, before: usize) -> Option<usize>
     ensures { MatchOption result (HasNoSort commands.now from before) (IsFirstSort commands.now from before) }
 {
@@ -53,7 +53,7 @@ fn first_sort(commands: &[Command], from: usize, before: usize) -> Option<usize>
     None
 }
 
-/// Whether one command is ITERATE, and those between it and another before it keep the entries and their order.
+/// Whether the command `iterate` is ITERATE, and the commands between `sort` and it keep the entries and their order.
 fn is_iterated(commands: &[Command], sort: usize, iterate: usize) -> bool
     ensures { IsTrue result → IsIterated commands.now sort iterate }
 {
@@ -75,7 +75,7 @@ fn is_less(one: &[u8], other: &[u8]) -> bool
 }
 
 impl WalkContext<'_> {
-    /// Whether the step before that of a number, if it is one of this command, has an entry with a lower sort key.
+    /// Whether the step before step `number`, if this command ran it too, is for an entry with a lower sort key.
     fn is_behind(self, number: usize, command: usize, key: &[u8]) -> bool
         requires { number < length self.earlier.now.steps }
         ensures { IsTrue result → IsBehind self.entry.earlier.now.steps command number key.now }
@@ -90,7 +90,7 @@ impl WalkContext<'_> {
         }
     }
 
-    /// Whether the step after that of a number, if it is one of this command, has an entry with a higher sort key.
+    /// Whether the step after step `number`, if this command ran it too, is for an entry with a higher sort key.
     fn is_before(self, number: usize, command: usize, key: &[u8]) -> bool
         requires { number < length self.earlier.now.steps }
         ensures { IsTrue result → IsBefore self.entry.earlier.now.steps command number key.now }
@@ -122,7 +122,7 @@ impl WalkContext<'_> {
                 && self.is_before(number, step.command, key))
     }
 
-    /// Whether the step of a number is one of a command after this one, and each SORT between them gives the old order.
+    /// Whether a command after `after` ran step `number`, and each SORT between the two commands gives the old order.
     pub fn keeps_order(self, number: usize, entry: &Entry, after: usize) -> bool
         requires { number < length self.earlier.now.steps }
         ensures { IsTrue result → KeepsOrderIn self.entry number entry.now after }

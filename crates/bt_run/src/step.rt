@@ -162,7 +162,8 @@ pub fn put_back(
     requires { IsPlace place (course_world course.old) }
     ensures { OnOk result (course.new ≡ put_back command.entry.site.now place outcome.now course.old) }
 {
-    let StepCommand { alloc, site, .. } = command;
+    let StepCommand { job, site } = command;
+    let alloc = job.alloc;
     let variables = shared(&outcome.variables)?;
     put_variables_back(alloc, &mut course.entries, place, variables);
     course.globals = outcome.globals.share()?;
@@ -183,7 +184,8 @@ pub fn move_back(
     ensures { (lines : List (List ℕ)) (calls : List ℕ) → OnOk result (course.new
         ≡ put_back command.entry.site.now place (outcome_with end lines calls) course.old) }
 {
-    let StepCommand { alloc, site, .. } = command;
+    let StepCommand { job, site } = command;
+    let alloc = job.alloc;
     let StepEnd {
         globals,
         variables,

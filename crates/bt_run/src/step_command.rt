@@ -9,12 +9,11 @@ use crate::course::{CommandPlace, Course};
 use crate::job::Job;
 use crate::recorder::Recorder;
 use bt_style::Target;
-use std::alloc::{AllocError, Global};
+use std::alloc::AllocError;
 
 /// A command that takes steps: what its run reads, and where it stands in the style.
 #[derive(Clone, Copy)]
 pub struct StepCommand<'a> {
-    pub alloc: Global,
     pub job: Job<'a>,
     pub site: &'a CommandPlace,
 }
@@ -78,7 +77,7 @@ impl<'a> StepCommand<'a> {
         ensures ordered { OnOk result (IsOrdered course.new) }
         ensures ready { OnOk result (R.ready recorder.new self.entry.job (course_world course.new)) }
     {
-        let places = Vec::from_slice(self.alloc, course.order.as_slice())?;
+        let places = Vec::from_slice(self.job.alloc, course.order.as_slice())?;
         self.run_for_each(target, places.as_slice(), course, recorder)
     }
 
@@ -98,7 +97,7 @@ impl<'a> StepCommand<'a> {
         ensures ordered { OnOk result (IsOrdered course.new) }
         ensures ready { OnOk result (R.ready recorder.new self.entry.job (course_world course.new)) }
     {
-        let mut places = Vec::from_slice(self.alloc, course.order.as_slice())?;
+        let mut places = Vec::from_slice(self.job.alloc, course.order.as_slice())?;
         places.reverse();
         self.run_for_each(target, places.as_slice(), course, recorder)
     }

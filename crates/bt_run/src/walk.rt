@@ -2,12 +2,12 @@
 //!
 //! A step sees no entry but its own. So the walk goes over the old run's steps in order and re-makes only those for the
 //! changed entry, and those for other entries as long as the globals or the held line differ from what the old step was
-//! given. A re-made step is an old one that agrees, or else it runs. All other steps stay: of each, the walk reads only the
-//! place in its mark.
+//! given. A re-made step is the old one if that agrees, or else it runs. All other steps stay. Of each, the walk reads only its
+//! mark, and its key if the mark has no place.
 //!
-//! The walk gives up, and a whole run begins, if a re-made step gives other messages or stops the run, if one for another
-//! entry leaves other variables, if SORT may give another order (`sort_order.rt`), or after 16 scans for a step that
-//! agrees: a whole run makes an index for that. So a walk runs at most 16 steps.
+//! The walk gives up, and a whole run begins, if the new run could differ in more than these steps: for example, if a re-made
+//! step gives other messages or stops the run, if one for another entry leaves that entry other variables, or if SORT may give
+//! another order (`sort_order.rt`). It also gives up after `MOST_RUN` steps that ran, because a whole run would run them again.
 //!
 //! In what follows, `own` says that a step is for the changed entry.
 
@@ -19,7 +19,7 @@ ghost use Rattle.bt_run.specs.declared.course.Step.{Step as StepSeen};
 ghost use Rattle.bt_run.specs.Meaning.{first_globals};
 ghost use Rattle.bt_run.specs.inner.Beside.{MayLeave, is_for};
 ghost use Rattle.bt_run.specs.inner.Course.{with_variables};
-ghost use Rattle.bt_run.specs.inner.Index.{IsIndex};
+ghost use Rattle.bt_run.specs.inner.Names.{IsIndex};
 ghost use Rattle.bt_run.specs.inner.Walk.{AreOrderedIn, GiveAlike, IsAgain, IsNoted, IsPutAt, IsWalkThroughIn, IsWalkedIn, given_to};
 ghost use Rattle.bt_run.specs.inner.Work.{IsKnown, IsNext};
 
@@ -27,13 +27,16 @@ use crate::counts::Calls;
 use crate::course::Step;
 use crate::known_calls::exchange_calls;
 use crate::reuse::Reuse;
-use crate::reused_step::{Done, SCANS, StepToTake};
+use crate::reused_step::{Done, StepToTake};
 use crate::same_messages::are_same_messages;
 use crate::walk_context::WalkContext;
 use bt_actions::{Entry, Variables};
 use bt_machine::{Input, Outcome, equal_variables};
 use bt_text::{Bytes, Held, Sequence, Shared, equal_bytes};
 use std::alloc::{AllocError, Global};
+
+/// How many steps a walk runs at most.
+const MOST_RUN: u128 = 16;
 
 /// A re-made step, in the place of the old one of this number.
 #[derive(Drop)]
@@ -328,7 +331,7 @@ impl Walk {
         if self.in_step && !own {
             return Ok(true);
         }
-        if self.reuse.lookup.scans >= SCANS {
+        if self.reuse.ran >= MOST_RUN {
             return Ok(false);
         }
         if own {

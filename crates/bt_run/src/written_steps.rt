@@ -59,14 +59,8 @@ impl Recorder for WrittenSteps {
 
     ghost ready = { λ s job w. Unit {0} };
 
-    fn read(
-        &mut self,
-        alloc: Global,
-        job: Job<'_>,
-        number: usize,
-        course: &mut Course,
-    ) -> Result<(), AllocError> {
-        read_once(alloc, job, number, course)
+    fn read(&mut self, job: Job<'_>, number: usize, course: &mut Course) -> Result<(), AllocError> {
+        read_once(job, number, course)
     }
 
     #[tactic(auto, using(crate::proofs::CourseLemmas::placed_lent))]
@@ -79,7 +73,8 @@ impl Recorder for WrittenSteps {
     ) -> Result<(), AllocError> {
         // A law of the machine, for the proof alone: the call does nothing.
         step_depends_on_its_input();
-        let StepCommand { alloc, job, .. } = command;
+        let job = command.job;
+        let alloc = job.alloc;
         let input = move_out(alloc, course, target, place, &self.others)?;
         let mut meter = Meter::new();
         let mut tally = Tally::new();

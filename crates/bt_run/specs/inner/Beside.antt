@@ -20,7 +20,7 @@ use Rattle.bt_run.specs.ReadCommand.{Job, list_order, with_blank_variables}
 use Rattle.bt_run.specs.SortCommand.{key_at, sorted}
 use Rattle.bt_run.specs.declared.reuse.Reuse.{Reuse}
 use Rattle.bt_run.specs.Work.{IsStep, same_key, total_cost, work_under}
-use Rattle.bt_run.specs.inner.Index.{IsIndex}
+use Rattle.bt_run.specs.inner.Names.{IsIndex}
 use Rattle.bt_run.specs.inner.Work.{IsKnown}
 use Rattle.std.specs.Option.{ForSome}
 use Rattle.bt_run.specs.inner.Course.{IsOrdered, with_variables}

@@ -6,6 +6,7 @@ use Rattle.bt_run.specs.declared.course.Step.{Step}
 use Rattle.bt_run.specs.declared.mark.Mark.{Mark}
 use Rattle.bt_run.specs.Course.{key_in}
 use Rattle.bt_run.specs.inner.Earlier.{fixed, fixed_at}
+use Rattle.bt_run.specs.inner.Index.{key_or_none}
 
 -- a number with some bytes after it, mixed
 abbrev pub tag_from : ℕ → List ℕ → ℕ
@@ -14,8 +15,7 @@ tag_from tag (byte ∷ bytes) = tag_from ((tag * 31 + byte) % 4294967296) bytes
 
 -- the tag of a command and of the key of an entry, or of none
 abbrev pub tag_of : ℕ → Option (List ℕ) → ℕ
-tag_of command None = command % 4294967296
-tag_of command (Some key) = tag_from (command % 4294967296) key
+tag_of command key = tag_from (command % 4294967296) (key_or_none key)
 
 -- the tag of a step
 abbrev pub step_tag : Step → ℕ

@@ -1,9 +1,8 @@
 -- How the new run takes the place of the old one.
-use Rattle.std.specs.Prelude.{◌≡◌, ◌++◌, ◌<◌, ℕ, false, All, List, [], ◌∷◌, length, map, slice_set, bytes_eq, Ok, Option, Some}
+use Rattle.std.specs.Prelude.{◌≡◌, ◌++◌, ◌<◌, ℕ, false, All, List, [], ◌∷◌, length, slice_set, bytes_eq, Ok, Option, Some}
 use Rattle.std.specs.Option.{ForSome, is_some}
 use Rattle.bt_style.specs.Program.{Program}
 use Rattle.bt_style.specs.Reader.{style_of}
-use Rattle.bt_bib.specs.BibText.{pieces_of}
 use Rattle.bt_log.specs.declared.message.Message.{Message}
 use Rattle.bt_resolve.specs.declared.entry.Entry.{Entry as FoundEntry}
 use Rattle.bt_run.specs.declared.answers.Answers.{Answers}
@@ -16,10 +15,11 @@ use Rattle.bt_run.specs.Counts.{calls_at, counts_told}
 use Rattle.bt_run.specs.ReadCommand.{with_blank_variables}
 use Rattle.bt_run.specs.Shown.{meaning_of}
 use Rattle.bt_run.specs.Work.{IsStep}
-use Rattle.bt_run.specs.inner.Asked.{with_databases}
 use Rattle.bt_run.specs.inner.Beside.{Difference, HasKey}
 use Rattle.bt_run.specs.inner.Cases.{bbl_of, shown_of}
 use Rattle.bt_run.specs.inner.ChangedEntry.{IsChangedEntry}
+use Rattle.bt_run.specs.inner.Edits.{Makes, edited_question}
+use Rattle.bt_run.specs.inner.Names.{HaveDistinctNames}
 use Rattle.bt_run.specs.inner.Walk.{IsWalkedOut, with_steps}
 
 -- old lengths, with those of re-made steps in the place of some
@@ -29,9 +29,8 @@ with_lengths ns (o ∷ os) = with_lengths (slice_set ns o.number o.length) os
 
 -- The kept edit is made.
 pub record IsEdited (was is : KeptResolution) : Type 0 where
-  pub resolution : ForSome was.edit (λ edit. ForSome edit.made (λ made.
-      is.resolution ≡ with_databases (map pieces_of (slice_set was.texts edit.number edit.text)) was.resolution))
-  pub texts : ForSome was.edit (λ edit. ForSome edit.made (λ made. is.texts ≡ slice_set was.texts edit.number edit.text))
+  pub resolution : ForSome was.edit (λ edit. ForSome edit.made (λ made. is.resolution ≡ edited_question was.resolution was.texts edit))
+  pub texts : ForSome was.edit (λ edit. ForSome edit.made (λ made. Makes was.texts is.texts edit))
 
 -- The same, if there is a resolution.
 pub record GoesOver (was is : Option KeptResolution) : Type 0 where
@@ -51,6 +50,7 @@ pub record IsPutBeside (kept : Kept) (place : ℕ) (w : Walk) : Type 0 where
   pub begins : first.entry ≡ with_blank_variables p d
   pub other : ForSome kept.resolution (λ k. IsChangedEntry k place d)
   pub walked : IsWalkedOut p d.key first kept.steps w
+  pub named : HaveDistinctNames (with_steps kept.steps w.steps)
 
 -- what the new run shows: the log is the old one with the new counts
 abbrev pub AreShown : Run → Walk → Answers → Type 0

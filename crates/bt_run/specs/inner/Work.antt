@@ -15,9 +15,10 @@ use Rattle.bt_run.specs.declared.kept.Kept.{Kept}
 use Rattle.bt_run.specs.declared.reuse.KnownReach.{KnownReach}
 use Rattle.bt_run.specs.declared.reuse.Reuse.{Reuse}
 use Rattle.bt_run.specs.declared.reused_step.Sought.{Sought}
-use Rattle.bt_run.specs.declared.reused_step.Found.{Found}
 use Rattle.bt_run.specs.declared.reused_step.Marked.{Marked}
-use Rattle.bt_run.specs.inner.Index.{IsIndex}
+use Rattle.bt_run.specs.declared.index.StepName.{StepName}
+use Rattle.bt_run.specs.inner.Index.{step_name}
+use Rattle.bt_run.specs.inner.Names.{IsIndex}
 use Rattle.bt_run.specs.inner.Earlier.{AreSame}
 use Rattle.bt_run.specs.inner.Marks.{AreMarked, IsMark}
 use Rattle.bt_run.specs.inner.Turn.{AreInTurn, AreLeft, IsGivenAt}
@@ -33,27 +34,28 @@ pub record IsLike (command : ℕ) (names : List Target) (i : Input) (s : Step) :
   pub of_command : s.command ≡ command
   pub agree : Agree (is_among names) s.input i
 
--- the step at a place, if there is one, is not like
-abbrev pub IsUnlikeAt : ℕ → List Target → Input → List Step → ℕ → Type 0
-IsUnlikeAt command names i steps k = (s : Step) → slice_get steps k ≡ Some s → IsLike command names i s → ⊥
-
 -- an earlier step and its mark are those at a place
 pub record IsMarkedAt (earlier : Kept) (k : ℕ) (m : Marked) : Type 0 where
   pub at : slice_get earlier.steps k ≡ Some m.step.now
   pub mark : IsMark earlier.entries m.step.now m.mark
 
--- Of a step that is looked for: that none at a place is like it, that no earlier one is, and that one was met which is.
+-- the name of the step that is looked for
+abbrev pub name_of : Sought → StepName
+name_of sought = step_name sought.command sought.input.now
 
-abbrev pub IsNoneAt : Sought → List Step → ℕ → Type 0
-IsNoneAt sought steps k = IsUnlikeAt sought.command sought.reach.now.targets sought.input.now steps k
+-- The step at a place, if there is one, isn't like it.
+abbrev pub IsUnlikeAt : Sought → List Step → ℕ → Type 0
+IsUnlikeAt sought steps k =
+    (s : Step) → slice_get steps k ≡ Some s → IsLike sought.command sought.reach.now.targets sought.input.now s → ⊥
 
-abbrev pub IsNone : Sought → List Step → Type 0
-IsNone sought steps = All (λ s. IsLike sought.command sought.reach.now.targets sought.input.now s → ⊥) steps
+-- No earlier step is like it.
+abbrev pub AreUnlike : Sought → List Step → Type 0
+AreUnlike sought steps = All (λ s. IsLike sought.command sought.reach.now.targets sought.input.now s → ⊥) steps
 
-abbrev pub IsMet : Sought → List Step → Found → Type 0
-IsMet sought steps found =
-    (found.place < length steps) × Contains steps found.step.now
-    × IsLike sought.command sought.reach.now.targets sought.input.now found.step.now
+-- This earlier step is like it.
+abbrev pub IsMet : Sought → List Step → Step → Type 0
+IsMet sought steps s =
+    Contains steps s × IsLike sought.command sought.reach.now.targets sought.input.now s
 
 -- what is known to be reached from a name
 abbrev pub IsKnown : Program → KnownReach → Type 0

@@ -1,12 +1,18 @@
 use Rattle.std.specs.Prelude.{MatchOption}
-use Rattle.std.proofs.Common.{subst, List}
+use Rattle.std.proofs.Common.{List, subst}
 use Rattle.bt_run.specs.declared.course.Step.{Step}
-use Rattle.bt_run.specs.inner.Work.{IsMet, IsNone}
-use Rattle.bt_run.proofs.IndexLemmas.{met_by_index}
+use Rattle.bt_run.specs.inner.Work.{IsMet, IsUnlikeAt}
+use Rattle.bt_run.proofs.StepNameLemmas.{met_none, met_some, named_met, unnamed_none}
 use Rattle.bt_run.proofs.reused_step.meet.Goals as goal
 
-pub returns-clause-met : goal.returns-clause-met
-returns-clause-met c =
-    let s = c.args.sought in
-    subst (λ (ss : List Step). MatchOption c.find_like-met.result (IsNone s ss) (IsMet s ss)) c.as_slice-steps.ensures
-    (met_by_index _ c.find_like-met.result s.command s.reach.now.targets s.input.now c.as_slice-steps.result.now c.in_ok-made.made c.in_ok-places.places.now c.in_ok-made.ensures c.in_ok-places.ensures c.find_like-met.ensures)
+pub returns-in-None-clause-met : goal.returns-in-None-clause-met
+returns-in-None-clause-met c =
+    unnamed_none c.args.sought c.args.earlier.now.steps (met_none _ _ c.in_ok-found.found c.in-None.is c.in_ok-found.ensures.place)
+
+pub returns-in-Some-clause-met : goal.returns-in-Some-clause-met
+returns-in-Some-clause-met c =
+    let sought = c.args.sought in
+    let earlier = c.args.earlier.now in
+    let place = c.in-Some.place in
+    named_met _ c.like_at.result sought earlier.steps place earlier.named (met_some _ _ c.in_ok-found.found place c.in-Some.is c.in_ok-found.ensures.place)
+    (subst (λ (ss : List Step). MatchOption c.like_at.result (IsUnlikeAt sought ss place) (λ step. IsMet sought ss step.now)) c.as_slice-steps.ensures c.like_at.ensures)

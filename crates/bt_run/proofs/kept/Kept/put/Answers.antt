@@ -1,5 +1,6 @@
-use Rattle.std.proofs.Common.{◌∙◌, ap, subst, Option}
+use Rattle.std.proofs.Common.{◌∙◌, ap, subst, sym, Option}
 use Rattle.bt_run.specs.declared.kept_resolution.KeptResolution.{KeptResolution}
+use Rattle.bt_run.specs.inner.Names.{HaveDistinctNames}
 use Rattle.bt_run.specs.inner.Put.{GoesOver, with_lengths}
 use Rattle.bt_run.proofs.PutKeptLemmas.{arranged_put, called_put, found_put, in_turn_put, marked_put, measured_put, true_put}
 use Rattle.bt_run.proofs.kept.Kept.put.Goals as goal
@@ -21,6 +22,7 @@ invariant_of-self c =
       arranged = arranged_put k place w h entries set;
       called = called_put k place w h steps put;
       in_turn = in_turn_put k place w h steps put;
+      named = subst HaveDistinctNames (sym put) h.named;
       found = found_put k place w h entries resolution set (subst (λ (r : Option KeptResolution). GoesOver r resolution) c.take-resolution.ensures.value c.after_edit.ensures);
       measured = measured_put k place w h steps c.put_lengths.new.lengths put (c.put_lengths.ensures ∙ ap (with_lengths k.lengths) c.as_slice.ensures);
     }

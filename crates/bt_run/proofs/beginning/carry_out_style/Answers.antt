@@ -8,7 +8,7 @@ use Rattle.bt_run.specs.Meaning.{first_globals, run_begun}
 use Rattle.bt_run.specs.inner.Calls.{AreCalls, AreCallsFrom}
 use Rattle.bt_run.specs.inner.JobView.{job_of}
 use Rattle.bt_run.proofs.AnswerLemmas.{begun_consistent, carried_by, kept_with}
-use Rattle.bt_run.proofs.answers.carry_out_style.Goals as goal
+use Rattle.bt_run.proofs.beginning.carry_out_style.Goals as goal
 
 pub run_style-requires : goal.run_style-requires
 run_style-requires c =
