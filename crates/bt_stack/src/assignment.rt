@@ -115,6 +115,7 @@ fn assign_entry_text(state: &mut State, n: usize) -> Result<(), AllocError>
 }
 
 /// Gives the topmost value to a name, and removes it. The stack has one.
+#[inline(always)]
 pub fn assign_value(state: &mut State, target: Target) -> Result<(), AllocError>
     requires { 0 < length state.old.stack.items }
     ensures { OnOk result (world_of state.new ≡ value_given target (world_of state.old)) }
@@ -129,6 +130,7 @@ pub fn assign_value(state: &mut State, target: Target) -> Result<(), AllocError>
 }
 
 /// `:=`.
+#[inline(never)]
 pub fn assign(state: &mut State) -> Result<Flow, AllocError>
     ensures { IfOk result (Acts (λ world.
         change_with assigned (taken_two builtin.Assign as_any as_target world)) state.old state.new) }

@@ -20,6 +20,7 @@ use bt_text::is_white;
 use std::alloc::AllocError;
 
 /// `=`.
+#[inline(always)]
 pub fn equals(state: &mut State) -> Result<Flow, AllocError>
     ensures { IfOk result (Acts (λ world.
         valued equality_of zero_item (taken_two builtin.Equals as_any as_any world)) state.old state.new) }

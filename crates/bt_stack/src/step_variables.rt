@@ -1,7 +1,7 @@
 //! The variables of a step: those that it was given, and beside them the values that it gave to some. So a step that
 //! changes none copies none.
 
-ghost use Rattle.std.specs.Prelude.{◌≡◌, ℕ, ℤ, List, [], pos, length, slice_get, slice_index_or, slice_set, option_map, option_and_then, true, IfSome, OnOk, OnErr};
+ghost use Rattle.std.specs.Prelude.{◌≡◌, ◌<◌, ℕ, ℤ, List, [], pos, length, slice_get, slice_index_or, slice_set, option_map, option_and_then, true, IfSome, OnOk, OnErr};
 ghost use Rattle.bt_stack.specs.Desk.{short};
 ghost use Rattle.bt_stack.specs.inner.Kept.{item_in, bytes_in, is_text, text_value, Fits, AllFit, texts_over, own_of, number_over, numbers_over};
 
@@ -109,8 +109,27 @@ fn make_room<T: Drop>(values: &mut Vec<T>, count: usize) -> Result<(), AllocErro
     }
 }
 
+/// Makes a place for the value of number variable `n` of `count`.
+#[cold]
+#[tactic(auto, using(crate::proofs::VariableLemmas::numbers_padded))]
+fn make_number_place(
+    numbers: &mut Vec<Option<i32>>,
+    count: usize,
+    n: usize,
+) -> Result<(), AllocError>
+    ensures there { OnOk result (n < length numbers.new.items) }
+    ensures same { (zs : List ℤ) → numbers_over numbers.new.items zs ≡ numbers_over numbers.old.items zs }
+{
+    make_room(numbers, count)?;
+    'numbers: while numbers.len() <= n {
+        numbers.push(None)?;
+    }
+    Ok(())
+}
+
 /// Gives a value to number variable `n` of `count`, if there is one.
-#[tactic(auto, using(crate::proofs::VariableLemmas::numbers_padded, crate::proofs::VariableLemmas::numbers_set, crate::proofs::VariableLemmas::numbers_past))]
+#[inline(always)]
+#[tactic(auto, using(crate::proofs::VariableLemmas::numbers_set, crate::proofs::VariableLemmas::numbers_past))]
 pub fn set_number(
     numbers: &mut Vec<Option<i32>>,
     count: usize,
@@ -121,18 +140,35 @@ pub fn set_number(
         → numbers_over numbers.new.items zs ≡ slice_set (numbers_over numbers.old.items zs) n number) }
     ensures err { OnErr result ((zs : List ℤ) → numbers_over numbers.new.items zs ≡ numbers_over numbers.old.items zs) }
 {
-    if n < count {
-        make_room(numbers, count)?;
-        'numbers: while numbers.len() <= n {
-            numbers.push(None)?;
+    if n >= numbers.len() {
+        if n >= count {
+            return Ok(());
         }
-        numbers[n] = Some(number);
+        make_number_place(numbers, count, n)?;
+    }
+    numbers[n] = Some(number);
+    Ok(())
+}
+
+/// Makes a place for the value of text variable `n` of `count`.
+#[cold]
+#[tactic(auto, using(crate::proofs::VariableLemmas::texts_padded))]
+fn make_text_place(texts: &mut Vec<Value>, count: usize, n: usize) -> Result<(), AllocError>
+    ensures there { OnOk result (n < length texts.new.items) }
+    ensures same { (pool : List ℕ) (ts : List (List ℕ))
+        → texts_over pool texts.new.items ts ≡ texts_over pool texts.old.items ts }
+    ensures fit { (size : ℕ) → AllFit size texts.old.items → AllFit size texts.new.items }
+{
+    make_room(texts, count)?;
+    'texts: while texts.len() <= n {
+        texts.push(Value::Missing(0))?;
     }
     Ok(())
 }
 
 /// Gives a value to text variable `n` of `count`, if there is one.
-#[tactic(auto, using(crate::proofs::VariableLemmas::texts_padded, crate::proofs::VariableLemmas::texts_set, crate::proofs::VariableLemmas::texts_past))]
+#[inline(always)]
+#[tactic(auto, using(crate::proofs::VariableLemmas::texts_set, crate::proofs::VariableLemmas::texts_past))]
 pub fn set_text<'a>(
     texts: &mut Vec<Value<'a>>,
     count: usize,
@@ -147,12 +183,12 @@ pub fn set_text<'a>(
         → texts_over pool texts.new.items ts ≡ texts_over pool texts.old.items ts) }
     ensures fit { (size : ℕ) → Fits size value.entry → AllFit size texts.old.items → AllFit size texts.new.items }
 {
-    if n < count {
-        make_room(texts, count)?;
-        'texts: while texts.len() <= n {
-            texts.push(Value::Missing(0))?;
+    if n >= texts.len() {
+        if n >= count {
+            return Ok(());
         }
-        texts[n] = value;
+        make_text_place(texts, count, n)?;
     }
+    texts[n] = value;
     Ok(())
 }

@@ -142,7 +142,7 @@ impl Model for VariablesLeft {
 
 impl VariablesLeft {
     ghost use Rattle.std.specs.Prelude.{◌≡◌, length, IfOk};
-    ghost use Rattle.bt_stack.specs.inner.Kept.{AllFit, numbers_over, texts_over};
+    ghost use Rattle.bt_stack.specs.inner.Kept.{AllFit, variables_in};
 
     /// A step's variables with these numbers, which the step gave.
     pub fn of(
@@ -152,10 +152,7 @@ impl VariablesLeft {
         variables: &StepVariables,
     ) -> Result<VariablesLeft, AllocError>
         requires { AllFit (length pool.now) variables.now.texts.items }
-        ensures { IfOk result (λ left. left ≡ record {
-          numbers = numbers_over numbers.items variables.now.given.now.numbers;
-          texts = texts_over pool.now variables.now.texts.items variables.now.given.now.texts;
-        }) }
+        ensures { IfOk result (λ left. left ≡ variables_in pool.now (record variables.now { numbers = numbers })) }
     {
         let texts = texts_copied(alloc, pool, &variables.texts)?;
         let given = variables.given.share()?;

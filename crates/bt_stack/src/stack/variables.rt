@@ -27,6 +27,7 @@ impl<'a> Stack<'a> {
     }
 
     /// Pushes the value of a text variable of the style, unless it is too long. Nothing is copied.
+    #[inline(always)]
     pub fn push_global_text(&mut self, n: usize) -> Result<bool, AllocError>
         requires { length self.old.items < 1000 }
         ensures ok { IfOk result (λ done. (done, self.new)

@@ -1,6 +1,6 @@
 use Rattle.std.proofs.Common.{◌≡◌, ℕ, ◌+◌, ◌-◌, List, length}
 use Rattle.bt_stack.specs.inner.Kept.{texts_over, AllFit}
-use Rattle.bt_stack.proofs.step_variables.set_text.Given as goal
+use Rattle.bt_stack.proofs.step_variables.make_text_place.Given as goal
 
 abbrev pub invariant-texts : goal.invariant-texts
 invariant-texts l = record {

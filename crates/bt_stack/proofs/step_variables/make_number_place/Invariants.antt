@@ -1,6 +1,6 @@
 use Rattle.std.proofs.Common.{◌≡◌, ℤ, ◌+◌, ◌-◌, List, length}
 use Rattle.bt_stack.specs.inner.Kept.{numbers_over}
-use Rattle.bt_stack.proofs.step_variables.set_number.Given as goal
+use Rattle.bt_stack.proofs.step_variables.make_number_place.Given as goal
 
 abbrev pub invariant-numbers : goal.invariant-numbers
 invariant-numbers l = (zs : List ℤ) → numbers_over l.numbers.items zs ≡ numbers_over l.fn.numbers.items zs
