@@ -1,5 +1,5 @@
 -- Elements that are carried out at once lead to what they lead to one by one.
-use Rattle.std.proofs.Common.{◌≡◌, ℕ, ℤ, suc, ◌+◌, ◌≤◌, ◌<◌, Bool, true, List, [], ◌∷◌, length, drop, Some, refl, sym, ap, ◌∙◌, arith}
+use Rattle.std.proofs.Common.{◌≡◌, ℕ, ℤ, suc, ◌+◌, ◌≤◌, ◌<◌, true, List, [], ◌∷◌, length, drop, Some, refl, sym, ap, ◌∙◌, arith}
 use Rattle.std.specs.Prelude.{option_and_then, slice_get, nat_lt, if◌then◌else◌}
 use Rattle.std.proofs.lemmas.Option.{none-some, same_Some}
 use Rattle.bt_style.specs.declared.builtin.Builtin.TheVariants as builtin
@@ -17,7 +17,7 @@ use Rattle.bt_actions.specs.World.{World, Goes, Stops, say, with_stack}
 use Rattle.bt_stack.specs.Assigning.{value_given}
 use Rattle.bt_machine.specs.Eval.{Counts, Done, then_go, by_sign, acted, act, calls_after, eval}
 use Rattle.bt_machine.specs.declared.control.Frame.{Frame as HeldFrame}
-use Rattle.bt_machine.specs.inner.Loop.{Frame, Run, left, kept, putting, whole, SameLeft}
+use Rattle.bt_machine.specs.inner.Loop.{Frame, Run, left, kept, putting, whole}
 use Rattle.bt_machine.proofs.LoopLemmas.{one_element, same_then}
 
 -- a function goes on a stack with room
@@ -63,16 +63,11 @@ choice_from p n above other rest r fs (Num m ∷ s) w t calls e few is_rest =
     choice_leads p m above other rest r fs s w t calls (omega (arith, few)) is_rest
     ∙ ap (λ n. left p (Run (by_sign n above other) ∷ Run (Block r) ∷ fs) (with_stack s w) (t, with_call (Some builtin.If) calls)) (sym (same_Some n m e))
 
--- the code's look at the number
-pub above_runs : (n m : ℤ) (b : Bool) (above other : Code) → ((a c : Code) → by_sign m a c ≡ (if b then a else c)) → b ≡ true → m ≡ n → above ≡ by_sign n above other
-above_runs n m b above other is_chosen is_above is_n =
-    sym (ap (λ m. by_sign m above other) (sym is_n) ∙ is_chosen above other ∙ ap (λ b. if b then above else other) is_above)
-
-pub chosen_at_once : (p : Program) (n : ℤ) (above other : Code) (rest after body : List Op) (fs gs : List HeldFrame) (w w' : World) (k k' : Counts) → Some n ≡ option_and_then as_number (slice_get w.stack 0) → length w.stack ≤ 998 → k'.0 + 2 ≡ k.0 → k'.1 ≡ with_call (Some builtin.If) k.1 → ops_body rest ≡ Then (putting other) (Then (Called (target.Builtin builtin.If)) (ops_body after)) → w' ≡ with_stack (drop 1 w.stack) w → SameLeft (whole body gs) (Run (by_sign n above other) ∷ whole after fs) → left p (whole body gs) w' k' ≡ then_go (act p (eval p) (putting above) w k) (left p (whole rest fs))
-chosen_at_once p n above other rest after body fs gs w w' k k' e few ticks calls is_rest is_world same =
+pub chosen_at_once : (p : Program) (n : ℤ) (above other c : Code) (rest after body : List Op) (fs gs : List HeldFrame) (w w' : World) (k k' k'' : Counts) → Some n ≡ option_and_then as_number (slice_get w.stack 0) → length w.stack ≤ 998 → k'.0 + 2 ≡ k.0 → k'.1 ≡ with_call (Some builtin.If) k.1 → ops_body rest ≡ Then (putting other) (Then (Called (target.Builtin builtin.If)) (ops_body after)) → w' ≡ with_stack (drop 1 w.stack) w → Run c ≡ Run (by_sign n above other) → left p (whole body gs) w' k'' ≡ left p (Run c ∷ whole after fs) w' k' → left p (whole body gs) w' k'' ≡ then_go (act p (eval p) (putting above) w k) (left p (whole rest fs))
+chosen_at_once p n above other c rest after body fs gs w w' k k' k'' e few ticks calls is_rest is_world is_code same =
     let r : k.0 ≡ suc (suc k'.0) = omega (arith, ticks) in
-    same p w' k'
-    ∙ (λ i. left p (Run (by_sign n above other) ∷ whole after fs) (is_world i) (k'.0, calls i))
+    same
+    ∙ (λ i. left p (is_code i ∷ whole after fs) (is_world i) (k'.0, calls i))
     ∙ sym (choice_from p n above other rest (ops_body after) (kept fs) w.stack w k'.0 k.1 e few is_rest)
     ∙ ap (λ t. then_go (act p (eval p) (putting above) w (t, k.1)) (left p (whole rest fs))) (sym r)
 

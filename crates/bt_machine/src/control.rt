@@ -3,7 +3,7 @@
 //! A call uses no Rust stack: the rest of the caller's body waits on a `Vec`. An empty rest isn't kept, so a call at the
 //! end of a body doesn't make the `Vec` grow.
 
-ghost use Rattle.std.specs.Prelude.{◌≡◌, ◌+◌, ◌≤◌, [], ◌∷◌, ◌++◌, length, IfOk, OnOk};
+ghost use Rattle.std.specs.Prelude.{◌≡◌, ◌+◌, ◌≤◌, [], ◌∷◌, length, IfOk, OnOk};
 ghost use Rattle.bt_style.specs.Tree.{Called, element_of};
 ghost use Rattle.bt_actions.specs.View.{code_seen};
 ghost use Rattle.bt_machine.specs.Eval.{builtin_called};
@@ -75,31 +75,19 @@ pub fn next_due<'a>(rest: &'a [Op], control: &mut Vec<Frame<'a>>) -> Due<'a>
     }
 }
 
-/// A push that calls nothing while there is room. `Vec::push` hands its argument back if memory runs out, so LLVM leaves it a
-/// call of 50 instructions, and a style pushes a frame every ten ticks.
-#[inline(always)]
-fn push<'a>(control: &mut Vec<Frame<'a>>, frame: Frame<'a>) -> Result<(), AllocError>
-    ensures { OnOk result (control.new.items ≡ control.old.items ++ frame.entry ∷ []) }
-{
-    if control.len() == control.capacity() {
-        control.reserve(1)?;
-    }
-    control.push_reserved(frame);
-    Ok(())
-}
-
 /// Keeps what is left of a body, if anything is.
 pub fn keep<'a>(control: &mut Vec<Frame<'a>>, rest: &'a [Op]) -> Result<(), AllocError>
     ensures same { OnOk result (SameLeft (kept control.new.items) (whole rest.now control.old.items)) }
     ensures more { OnOk result (length control.new.items ≤ length control.old.items + 1) }
 {
     if !rest.is_empty() {
-        push(control, Frame::Run(Code::Block(rest)))?;
+        control.push(Frame::Run(Code::Block(rest)))?;
     }
     Ok(())
 }
 
 /// Puts a function before what is left, and returns the body that runs next.
+#[inline(always)]
 pub fn begin<'a>(
     control: &mut Vec<Frame<'a>>,
     rest: &'a [Op],
@@ -113,7 +101,7 @@ pub fn begin<'a>(
     match code {
         Code::Block(ops) => Ok(ops),
         Code::Name(_) => {
-            push(control, Frame::Run(code))?;
+            control.push(Frame::Run(code))?;
             Ok(&[])
         }
     }
@@ -132,6 +120,6 @@ pub fn begin_loop<'a>(
     ensures more { OnOk result (length control.new.items ≤ length control.old.items + 4) }
 {
     keep(control, rest)?;
-    push(control, Frame::Test(test, body))?;
+    control.push(Frame::Test(test, body))?;
     begin(control, &[], test)
 }

@@ -4,19 +4,19 @@
 //! The functions, or the name, aren't put on the stack. So this is done only if there are ticks and places on the stack
 //! for each element by itself. Otherwise they are carried out one by one, and a limit is passed at exactly its element.
 
-ghost use Rattle.std.specs.Prelude.{◌≡◌, ◌+◌, ◌≤◌, ◌<◌, ◌∷◌, Some, if◌then◌else◌, length, drop, slice_get, option_and_then, IfOk, IfSome, IsTrue, OnOk};
+ghost use Rattle.std.specs.Prelude.{◌≡◌, ◌+◌, ◌≤◌, ◌<◌, ◌∷◌, Some, length, drop, slice_get, option_and_then, IfOk, IfSome, IsTrue, OnOk};
 ghost use Rattle.bt_style.specs.Program.{Program};
 ghost use Rattle.bt_style.specs.Tree.{Then, Quoted, Braced, Called, element_of, ops_body};
 ghost use Rattle.bt_style.specs.declared.builtin.Builtin.TheVariants as builtin;
 ghost use Rattle.bt_style.specs.declared.style.Target.TheVariants as target;
 ghost use Rattle.bt_actions.specs.Arguments.{as_number};
-ghost use Rattle.bt_actions.specs.Item.{Code as ItemCode};
 ghost use Rattle.bt_actions.specs.Tally.{with_call};
 ghost use Rattle.bt_actions.specs.View.{code_seen};
-ghost use Rattle.bt_actions.specs.World.{with_stack};
+ghost use Rattle.bt_actions.specs.Item.{Name};
+ghost use Rattle.bt_actions.specs.World.{World, with_stack};
 ghost use Rattle.bt_stack.specs.View.{world_of};
-ghost use Rattle.bt_machine.specs.Eval.{eval, act, builtin_called, by_sign};
-ghost use Rattle.bt_machine.specs.inner.Loop.{ComesTo, SameLeft, putting, by_if, whole};
+ghost use Rattle.bt_machine.specs.Eval.{eval, act, builtin_called};
+ghost use Rattle.bt_machine.specs.inner.Loop.{ComesTo, Run, counts, left, putting, by_if, whole};
 
 use crate::calls::{Next, next_after};
 use crate::control::{Frame, begin, called_by};
@@ -107,40 +107,62 @@ fn choice_ahead<'a>(state: &State<'a>, tally: &Tally, rest: &'a [Op]) -> Option<
     })
 }
 
-/// Whether `if$` runs the first of its functions.
-fn is_above(number: i32) -> bool
-    ensures { (a b : ItemCode) → by_sign number a b ≡ (if result then a else b) }
+/// The function that `if$` runs.
+#[inline(always)]
+fn chosen<'a>(number: i32, above: Code<'a>, other: Code<'a>) -> Code<'a>
+    ensures { Run (code_seen result) ≡ by_if number above.entry other.entry }
 {
-    number > 0
+    if number > 0 { above } else { other }
 }
 
-/// Takes the ticks of the second function and of `if$`, and the number, and returns the body that runs next.
+/// Takes the ticks of the second function and of `if$`, and the number, and returns the function that runs next.
 #[inline(always)]
 fn choose_at_once<'a>(
     state: &mut State<'a>,
-    control: &mut Vec<Frame<'a>>,
     tally: &mut Tally,
     above: Code<'a>,
     choice: Choice<'a>,
-) -> Result<&'a [Op], AllocError>
+) -> Code<'a>
     requires ticks { 2 ≤ tally.old.ticks }
     requires number { 0 < length state.old.stack.items }
-    ensures ticks { OnOk result (tally.new.ticks + 2 ≡ tally.old.ticks) }
-    ensures calls { OnOk result (tally.new.calls ≡ with_call (Some builtin.If) tally.old.calls) }
-    ensures world { OnOk result (world_of state.new
-        ≡ with_stack (drop 1 (world_of state.old).stack) (world_of state.old)) }
-    ensures same { IfOk result (λ ops. SameLeft (whole ops.now control.new.items)
-        (by_if choice.entry.number above.entry choice.entry.other ∷ whole choice.entry.after.now control.old.items)) }
-    ensures more { OnOk result (length control.new.items ≤ length control.old.items + 4) }
+    ensures ticks { tally.new.ticks + 2 ≡ tally.old.ticks }
+    ensures calls { tally.new.calls ≡ with_call (Some builtin.If) tally.old.calls }
+    ensures world { world_of state.new ≡ with_stack (drop 1 (world_of state.old).stack) (world_of state.old) }
+    ensures code { Run (code_seen result) ≡ by_if choice.entry.number above.entry choice.entry.other }
 {
     tally.take(None);
     tally.take(Some(Builtin::If));
     state.stack.drop_tops(1);
-    if is_above(choice.number) {
-        begin(control, choice.after, above)
-    } else {
-        begin(control, choice.after, choice.other)
+    chosen(choice.number, above, choice.other)
+}
+
+/// Whether a function is `skip$`, the most frequent of those that are quoted.
+#[inline(always)]
+fn is_skip(code: Code) -> bool
+    ensures { IsTrue result → code_seen code.entry ≡ Name (target.Builtin builtin.Skip) }
+{
+    matches!(code, Code::Name(Target::Builtin(Builtin::Skip)))
+}
+
+/// Puts a function before what is left, and returns the body that runs next. `skip$` runs at once, if it has a tick.
+#[inline(always)]
+fn begin_or_skip<'a>(
+    control: &mut Vec<Frame<'a>>,
+    tally: &mut Tally,
+    rest: &'a [Op],
+    code: Code<'a>,
+) -> Result<&'a [Op], AllocError>
+    ensures same { IfOk result (λ body. (p : Program) (w : World) →
+        left p (whole body.now control.new.items) w (counts tally.new)
+        ≡ left p (Run (code_seen code.entry) ∷ whole rest.now control.old.items) w (counts tally.old)) }
+    ensures ticks { OnOk result (tally.new.ticks ≤ tally.old.ticks) }
+    ensures more { OnOk result (length control.new.items ≤ length control.old.items + 4) }
+{
+    if tally.ticks > 0 && is_skip(code) {
+        tally.take(Some(Builtin::Skip));
+        return Ok(rest);
     }
+    begin(control, rest, code)
 }
 
 /// Puts a function in braces on the stack, or carries out the `if$` that it belongs to.
@@ -160,7 +182,8 @@ pub fn put_block<'a>(
 {
     match choice_ahead(state, tally, rest) {
         Some(choice) => {
-            let body = choose_at_once(state, control, tally, Code::Block(above), choice)?;
+            let code = choose_at_once(state, tally, Code::Block(above), choice);
+            let body = begin_or_skip(control, tally, choice.after, code)?;
             Ok(Next::Body(body))
         }
         None => Ok(next_after(state.push_block(above)?, rest)),
@@ -198,7 +221,8 @@ fn put_quoted<'a>(
 {
     match choice_ahead(state, tally, rest) {
         Some(choice) => {
-            let body = choose_at_once(state, control, tally, Code::Name(name), choice)?;
+            let code = choose_at_once(state, tally, Code::Name(name), choice);
+            let body = begin_or_skip(control, tally, choice.after, code)?;
             Ok(Next::Body(body))
         }
         None => Ok(next_after(state.push_name(name)?, rest)),

@@ -8,11 +8,10 @@
 //! An element is matched where it lies in its body, and what comes after it is only a slice. So the loop holds both in
 //! registers: a copy of an element, or a result that holds a `Target`, would go through memory at each tick.
 
-ghost use Rattle.std.specs.Prelude.{◌≡◌, ◌+◌, ◌≤◌, ◌<◌, length, IfOk, IfSome, IsTrue, OnOk};
+ghost use Rattle.std.specs.Prelude.{◌≡◌, ◌+◌, ◌≤◌, ◌<◌, length, IfOk, IfSome, OnOk};
 ghost use Rattle.bt_style.specs.Program.{program_of};
 ghost use Rattle.bt_style.specs.Tree.{End, Then, Called};
 ghost use Rattle.bt_style.specs.declared.builtin.Builtin.TheVariants as builtin;
-ghost use Rattle.bt_style.specs.declared.style.Target.TheVariants as target;
 ghost use Rattle.bt_actions.specs.declared.complaint.Complaint.TheVariants.{TicksPassed};
 ghost use Rattle.bt_actions.specs.Arguments.{as_number, taken};
 ghost use Rattle.bt_actions.specs.World.{say};
@@ -26,7 +25,7 @@ use crate::control::{Context, Due, Frame, begin, begin_loop, builtin_of, called_
 use crate::idioms::{put_block, put_name};
 use bt_actions::{Code, Complaint, Flow, Tally};
 use bt_stack::{State, take_number};
-use bt_style::{Builtin, Op, Target};
+use bt_style::{Op, Target};
 use std::alloc::AllocError;
 
 /// How many frames there is room for at a step's beginning. Most steps need no more; it is 1,008 bytes.
@@ -84,13 +83,6 @@ fn carry_out<'a>(
     }
 }
 
-/// Whether a name is `skip$`, the most frequent of those that wait.
-fn is_skip(name: Target) -> bool
-    ensures { IsTrue result → name ≡ target.Builtin builtin.Skip }
-{
-    matches!(name, Target::Builtin(Builtin::Skip))
-}
-
 /// Calls a quoted name that waited, with its tick, and returns the body that runs next, unless the run stops.
 fn call_due<'a>(
     state: &mut State<'a>,
@@ -110,9 +102,6 @@ fn call_due<'a>(
         return Ok(None);
     }
     tally.take(builtin_of(name));
-    if is_skip(name) {
-        return Ok(Some(rest));
-    }
     let next = call_quoted(state, control, context, name, rest)?;
     match next {
         Next::Stop => Ok(None),

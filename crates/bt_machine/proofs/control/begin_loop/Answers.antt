@@ -11,7 +11,7 @@ returns-clause-same c =
     let before = whole c.args.rest.now c.args.control.now.items in
     let run = Run (code_seen c.args.test) in
     let test = Test (code_seen c.args.test) (code_seen c.args.body) in
-    let put = c.push.new.control.items in
-    let tested = kept_same c.keep.new.control.items put (held.Test c.args.test c.args.body) before c.in_ok-push.ensures c.in_ok-keep.ensures.same in
+    let put = c.push.new.self.items in
+    let tested = kept_same c.keep.new.control.items put (held.Test c.args.test c.args.body) before c.in_ok-push.ensures.items c.in_ok-keep.ensures.same in
     let rested = same_under run (whole [] put) (test ∷ before) (none_same [] put (test ∷ before) refl tested) in
     IfOk-weaker c.begin.result _ _ (λ ops h. same_join (whole ops.now c.begin.new.control.items) (run ∷ whole [] put) (run ∷ test ∷ before) h rested) c.begin.ensures.same

@@ -8,5 +8,6 @@ use Rattle.bt_machine.proofs.idioms.put_quoted.Goals as goal
 pub returns-in_ok-body-in-Some-clause-leads : goal.returns-in_ok-body-in-Some-clause-leads
 returns-in_ok-body-in-Some-clause-leads c = λ p.
     let all = c.in-Some in
-    let did = c.in_ok-body-in-Some.ensures in
-    chosen_at_once p all.choice.number (Name c.args.name) (code_seen all.choice.other) c.args.rest.now all.choice.after.now c.in_ok-body-in-Some.body.now c.args.control.now.items c.choose_at_once.new.control.items (world_of c.args.state.now) (world_of c.choose_at_once.new.state) (counts c.args.tally.now) (counts c.choose_at_once.new.tally) all.ensures.number all.ensures.few did.ticks did.calls all.ensures.behind did.world did.same
+    let chose = c.choose_at_once-code.ensures in
+    let world = world_of c.choose_at_once-code.new.state in
+    chosen_at_once p all.choice.number (Name c.args.name) (code_seen all.choice.other) (code_seen c.choose_at_once-code.result) c.args.rest.now all.choice.after.now c.in_ok-body-in-Some.body.now c.args.control.now.items c.begin_or_skip.new.control.items (world_of c.args.state.now) world (counts c.args.tally.now) (counts c.choose_at_once-code.new.tally) (counts c.begin_or_skip.new.tally) all.ensures.number all.ensures.few chose.ticks chose.calls all.ensures.behind chose.world chose.code (c.in_ok-body-in-Some.ensures.same p world)

@@ -5,7 +5,7 @@ use Rattle.bt_actions.specs.Tally.{with_call}
 use Rattle.bt_stack.specs.View.{world_of}
 use Rattle.bt_machine.specs.declared.calls.Next.{Next}
 use Rattle.bt_machine.specs.declared.calls.Next.TheVariants as next
-use Rattle.bt_machine.specs.Eval.{Ending, act, eval, then_go}
+use Rattle.bt_machine.specs.Eval.{Ending}
 use Rattle.bt_machine.specs.inner.Loop.{counts, left, followed, whole, call_left}
 use Rattle.bt_machine.proofs.LoopLemmas.{element_leads, no_tick_leads}
 use Rattle.bt_machine.proofs.run.call_due.Goals as goal
@@ -41,15 +41,3 @@ returns-in-Body-clause-leads c =
     let follows : Next → Ending = λ next. followed p next c.call_quoted.new.control.items (world_of c.call_quoted.new.state) (counts c.take.new.self) in
     let did = ap follows (sym c.in-Body.is) ∙ c.in_ok-next.ensures.leads (counts c.take.new.self) in
     element_leads p (Called c.args.name) due rest w k (counts c.take.new.self) (follows (next.Body c.in-Body.body)) (left p due w k) refl (λ p w k. refl) c.take.ensures.ticks calls did
-
-pub returns-then-is_skip-clause-leads : goal.returns-then-is_skip-clause-leads
-returns-then-is_skip-clause-leads c =
-    let p = program_of c.args.context.style.now in
-    let k = counts c.args.tally.now in
-    let k1 = counts c.take.new.self in
-    let w = world_of c.args.state.now in
-    let rest = whole c.args.rest.now c.args.control.now.items in
-    let due = call_left c.args.name c.args.rest.now c.args.control.now.items in
-    let calls = c.take.ensures.calls ∙ ap (λ b. with_call b c.args.tally.now.calls) c.builtin_of.ensures in
-    let did = ap (λ t. then_go (act p (eval p) (Called t) w k1) (left p rest)) (sym (c.is_skip.ensures c.if-is_skip.true)) in
-    element_leads p (Called c.args.name) due rest w k k1 (left p rest w k1) (left p due w k) refl (λ p w k. refl) c.take.ensures.ticks calls did
