@@ -40,8 +40,8 @@ fn is_and(rest: &[Marked]) -> bool {
     }
 }
 
-/// The name of this number in a list of names, from 1.
-fn name_in(names: &[Marked], number: i32) -> &[Marked] {
+/// The name of this number in a list of names, counted from 1: the first if the number is less, the last if it is more.
+pub fn name_in(names: &[Marked], number: i32) -> &[Marked] {
     let mut rest = names;
     let mut name = names;
     let mut left = number;
@@ -117,19 +117,17 @@ fn marked_at(name: &[Marked], place: Option<usize>) -> Option<&Marked> {
     name.get(place?)
 }
 
-/// The bytes that `format.name$` made of one name of a list, numbered from 1, with their marks. New marks are added to
-/// `marks`. The only error is out of memory; then some may have been added.
+/// The bytes that `format.name$` made of a name, with their marks. New marks are added to `marks`. The only error is out of
+/// memory; then some may have been added.
 pub fn formatted(
     alloc: Global,
     marks: &mut Marks,
     maker: Maker,
-    names: &[Marked],
-    number: i32,
+    name: &[Marked],
     bytes: &[u8],
 ) -> Result<Text, AllocError>
     ensures { IfOk result (λ text. text_bytes text.items ≡ bytes.now) }
 {
-    let name = name_in(names, number);
     let beside = first_mark(name);
     let added = marks.note(Source::Added(maker.builtin, beside), maker.site)?;
     let made = match beside {

@@ -13,7 +13,7 @@ mod marks;
 mod texts;
 
 pub use alignment::{Maker, aligned};
-pub use formatting::formatted;
+pub use formatting::{formatted, name_in};
 pub use line_pieces::{Piece, pieces};
 pub use lines::{Line, Written, break_lines, end_line, line_bytes, lines_bytes};
 pub use marks::{Call, Mark, Marks, Site, Source};

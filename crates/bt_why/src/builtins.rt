@@ -5,7 +5,7 @@ use crate::values::{Kind, Value};
 use bt_actions::{Complaint, Flow};
 use bt_marks::{
     Maker, Marked, Source, Text, Written, aligned, break_lines, end_line, formatted, joined,
-    of_mark, part,
+    name_in, of_mark, part,
 };
 use bt_names::{FormatFault, count, format};
 use bt_style::Builtin;
@@ -201,10 +201,10 @@ impl<'a> Machine<'a> {
     ) -> Result<Flow, AllocError> {
         let names = self.bytes(text)?;
         match format(self.alloc, names.as_slice(), number, pattern.as_slice()) {
-            Ok(name) => {
+            Ok(made) => {
                 let maker = self.maker(Builtin::FormatName);
-                let name = name.as_slice();
-                let text = formatted(self.alloc, &mut self.marks, maker, text, number, name)?;
+                let (name, made) = (name_in(text, number), made.as_slice());
+                let text = formatted(self.alloc, &mut self.marks, maker, name, made)?;
                 self.push_text(text)
             }
             Err(fault) => {
