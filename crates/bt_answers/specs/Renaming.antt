@@ -143,9 +143,10 @@ renamed_if_free files docs c wanted old new =
     else (if not (are_renamed files docs c wanted old new) then Err InexactRename
     else Ok (rename_edit files docs c wanted old new))))
 
--- the same of what is renamed
-abbrev pub renamed_by : List (List ℕ × List ℕ) → Renaming → Result Data RpcError
-renamed_by files r = renamed_if_free files r.editor.documents.now r.editor.counting r.wanted r.old.now r.new.now
+-- what is said of files and of a renaming's parts, for a renaming
+abbrev pub of_renaming : {A : Type 0} → (List (List ℕ × List ℕ) → List Document → Counting → Wanted → List ℕ → List ℕ → A) →
+    List (List ℕ × List ℕ) → Renaming → A
+of_renaming f files r = f files r.editor.documents.now r.editor.counting r.wanted r.old.now r.new.now
 
 -- whether a mention has a name that can change; an empty key has none, nor has a number that isn't a key
 abbrev pub is_named : List ℕ → Mention → Bool

@@ -2,7 +2,7 @@
 
 ghost use Rattle.std.specs.Prelude.{◌≡◌, ◌<◌, ◌*◌, ◌^◌, ◌++◌, ◌∷◌, [], length, map, option_map, IfOk};
 ghost use Rattle.serde_json.specs.View.{view};
-ghost use Rattle.bt_places.specs.Editor.{counting_in};
+ghost use Rattle.bt_places.specs.Editor.{in_workspace};
 ghost use Rattle.bt_places.specs.Shapes.{location, range_of};
 ghost use Rattle.bt_answers.specs.References.{wanted_of, asked_of, is_use, is_definition, is_wanted, is_mention, all_references, is_mentioned, references, references_at, macro_places, macro_at};
 
@@ -201,8 +201,8 @@ pub fn references_at<P: Paper>(
     cursor: &Cursor<'_>,
     with_declarations: bool,
 ) -> Result<Value, AllocError>
-    ensures { IfOk result (λ v. view v ≡ references_at (P.shown workspace.now.paper.now).files
-        workspace.now.editor.documents.now workspace.now.editor.counting cursor.now.document.now cursor.now.at with_declarations) }
+    ensures { IfOk result (λ v. view v ≡
+        in_workspace references_at P.shown workspace.now cursor.now.document.now cursor.now.at with_declarations) }
 {
     let Some(one) = mention_at(alloc, cursor)? else {
         return Ok(Value::Null);
@@ -221,9 +221,7 @@ fn macro_places<P: Paper>(
     workspace: &Workspace<'_, P>,
     name: &[u8],
 ) -> Result<Value, AllocError>
-    ensures { IfOk result (λ v. view v ≡
-        macro_places (P.shown workspace.now.paper.now).files workspace.now.editor.documents.now workspace.now.editor.counting
-        name.now) }
+    ensures { IfOk result (λ v. view v ≡ in_workspace macro_places P.shown workspace.now name.now) }
 {
     let search = Search {
         editor: workspace.editor,
@@ -247,8 +245,7 @@ pub fn macro_at<P: Paper>(
     cursor: &Cursor<'_>,
 ) -> Result<Option<Value>, AllocError>
     ensures { IfOk result (λ found. option_map view found ≡
-        macro_at (P.shown workspace.now.paper.now).files workspace.now.editor.documents.now workspace.now.editor.counting
-        cursor.now.document.now cursor.now.at) }
+        in_workspace macro_at P.shown workspace.now cursor.now.document.now cursor.now.at) }
 {
     let Some(one) = mention_at(alloc, cursor)? else {
         return Ok(None);

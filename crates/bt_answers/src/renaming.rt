@@ -6,8 +6,9 @@ ghost use Rattle.std.specs.List.{list_all};
 ghost use Rattle.serde_json.specs.View.{view};
 ghost use Rattle.bt_talk.specs.Replies.{outcome_of};
 ghost use Rattle.bt_mentions.specs.KeyBytes.{is_key_byte};
+ghost use Rattle.bt_places.specs.Editor.{in_workspace};
 ghost use Rattle.bt_places.specs.Shapes.{range_of};
-ghost use Rattle.bt_answers.specs.Renaming.{file_edit, are_renamed, with_file_edit, is_new_key, can_be_named, rename_edit, is_free, is_lent, is_defined, renamed_by, is_named, rename_at, range_if_defined, name_range_at};
+ghost use Rattle.bt_answers.specs.Renaming.{file_edit, are_renamed, with_file_edit, is_new_key, can_be_named, rename_edit, is_free, is_lent, is_defined, renamed_if_free, of_renaming, is_named, rename_at, range_if_defined, name_range_at};
 
 use crate::edit_values::edit_values;
 use crate::lending::Loan;
@@ -107,8 +108,7 @@ fn rename_edit<P: Paper>(
     paper: &P,
     renaming: &Renaming<'_>,
 ) -> Result<Value, AllocError>
-    ensures { IfOk result (λ v. view v ≡ rename_edit (P.shown paper.now).files renaming.now.editor.documents.now
-        renaming.now.editor.counting renaming.now.wanted renaming.now.old.now renaming.now.new.now) }
+    ensures { IfOk result (λ v. view v ≡ of_renaming rename_edit (P.shown paper.now).files renaming.now) }
 {
     let changes = with_files(alloc, paper, renaming, Vec::new(alloc))?;
     let changes = with_texts(alloc, renaming.editor.documents, renaming, changes)?;
@@ -117,8 +117,7 @@ fn rename_edit<P: Paper>(
 
 /// Whether a name is free: nothing has it, or it is the old one in another spelling.
 fn is_free<P: Paper>(alloc: Global, paper: &P, renaming: &Renaming<'_>) -> Result<bool, AllocError>
-    ensures { IfOk result (λ free. free ≡ is_free (P.shown paper.now).files renaming.now.editor.documents.now
-        renaming.now.editor.counting renaming.now.wanted renaming.now.old.now renaming.now.new.now) }
+    ensures { IfOk result (λ free. free ≡ of_renaming is_free (P.shown paper.now).files renaming.now) }
 {
     if eq_ignore_ascii_case(renaming.new, renaming.old) {
         return Ok(true);
@@ -138,8 +137,7 @@ fn is_lent<P: Paper>(
     workspace: &Workspace<'_, P>,
     name: &[u8],
 ) -> Result<bool, AllocError>
-    ensures { IfOk result (λ lent. lent ≡ is_lent (P.shown workspace.now.paper.now).files
-        workspace.now.editor.documents.now workspace.now.editor.counting name.now) }
+    ensures { IfOk result (λ lent. lent ≡ in_workspace is_lent P.shown workspace.now name.now) }
 {
     let loan = Loan {
         editor: workspace.editor,
@@ -158,9 +156,7 @@ fn is_defined<P: Paper>(
     wanted: Wanted,
     old: &[u8],
 ) -> Result<bool, AllocError>
-    ensures { IfOk result (λ defined. defined ≡
-        is_defined (P.shown workspace.now.paper.now).files workspace.now.editor.documents.now workspace.now.editor.counting
-        wanted old.now) }
+    ensures { IfOk result (λ defined. defined ≡ in_workspace is_defined P.shown workspace.now wanted old.now) }
 {
     match wanted {
         Wanted::Keys | Wanted::KeyUses => Ok(true),
@@ -183,8 +179,7 @@ fn are_renamed<P: Paper>(
     paper: &P,
     renaming: &Renaming<'_>,
 ) -> Result<bool, AllocError>
-    ensures { IfOk result (λ are. are ≡ are_renamed (P.shown paper.now).files renaming.now.editor.documents.now
-        renaming.now.editor.counting renaming.now.wanted renaming.now.old.now renaming.now.new.now) }
+    ensures { IfOk result (λ are. are ≡ of_renaming are_renamed (P.shown paper.now).files renaming.now) }
 {
     let mut are = true;
     'files: for n in 0..paper.file_count() {
@@ -199,7 +194,7 @@ fn renamed_if_free<P: Paper>(
     paper: &P,
     renaming: &Renaming<'_>,
 ) -> Result<Result<Value, RpcError>, AllocError>
-    ensures { IfOk result (λ o. outcome_of o ≡ renamed_by (P.shown paper.now).files renaming.now) }
+    ensures { IfOk result (λ o. outcome_of o ≡ of_renaming renamed_if_free (P.shown paper.now).files renaming.now) }
 {
     if !can_be_named(renaming.wanted, renaming.new) {
         return Ok(Err(RpcError::BadName));
@@ -236,9 +231,8 @@ pub fn rename_at<P: Paper>(
     cursor: &Cursor<'_>,
     new: Option<&str>,
 ) -> Result<Result<Value, RpcError>, AllocError>
-    ensures { IfOk result (λ o. outcome_of o ≡ rename_at (P.shown workspace.now.paper.now).files
-        workspace.now.editor.documents.now workspace.now.editor.counting
-        cursor.now.document.now cursor.now.at (option_map (λ s. s.now) new.entry)) }
+    ensures { IfOk result (λ o. outcome_of o ≡
+        in_workspace rename_at P.shown workspace.now cursor.now.document.now cursor.now.at (option_map (λ s. s.now) new.entry)) }
 {
     let Some(new) = new else {
         return Ok(Err(RpcError::InvalidParams));
@@ -268,9 +262,7 @@ fn range_if_defined<P: Paper>(
     one: Mention,
 ) -> Result<Result<Value, RpcError>, AllocError>
     requires { 2 * length document.now.text < 2 ^ 64 }
-    ensures { IfOk result (λ o. outcome_of o ≡
-        range_if_defined (P.shown workspace.now.paper.now).files workspace.now.editor.documents.now workspace.now.editor.counting
-        document.now one) }
+    ensures { IfOk result (λ o. outcome_of o ≡ in_workspace range_if_defined P.shown workspace.now document.now one) }
 {
     let old = part(document.text.as_slice(), one.from, one.to);
     if !is_defined(alloc, workspace, wanted_of(one.role), old)? {
@@ -287,8 +279,7 @@ pub fn name_range_at<P: Paper>(
     cursor: &Cursor<'_>,
 ) -> Result<Result<Value, RpcError>, AllocError>
     ensures { IfOk result (λ o. outcome_of o ≡
-        name_range_at (P.shown workspace.now.paper.now).files workspace.now.editor.documents.now workspace.now.editor.counting
-        cursor.now.document.now cursor.now.at) }
+        in_workspace name_range_at P.shown workspace.now cursor.now.document.now cursor.now.at) }
 {
     let document = cursor.document;
     if document.text.as_slice().len() > SHOWN_BYTES {

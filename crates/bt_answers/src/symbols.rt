@@ -2,6 +2,7 @@
 
 ghost use Rattle.std.specs.Prelude.{◌≡◌, ◌<◌, ◌*◌, ◌^◌, ◌++◌, ◌∷◌, [], length, map, IfOk};
 ghost use Rattle.serde_json.specs.View.{view};
+ghost use Rattle.bt_places.specs.Editor.{in_workspace};
 ghost use Rattle.bt_answers.specs.Symbols.{query_of, contains, number_of, is_symbol, symbol, symbol_at, symbols};
 
 use bt_mentions::{Mention, Role, part};
@@ -130,9 +131,7 @@ pub fn symbols_for<P: Paper>(
     workspace: &Workspace<'_, P>,
     message: &Value,
 ) -> Result<Value, AllocError>
-    ensures { IfOk result (λ v. view v ≡
-        symbols (P.shown workspace.now.paper.now).files workspace.now.editor.documents.now workspace.now.editor.counting
-        (view message.now)) }
+    ensures { IfOk result (λ v. view v ≡ in_workspace symbols P.shown workspace.now (view message.now)) }
 {
     let query = Query {
         editor: workspace.editor,

@@ -2,7 +2,7 @@
 
 ghost use Rattle.std.specs.Prelude.{◌≡◌, option_map, IfOk};
 ghost use Rattle.serde_json.specs.View.{view};
-ghost use Rattle.bt_places.specs.Editor.{counting_in};
+ghost use Rattle.bt_places.specs.Editor.{counting_in, in_workspace};
 ghost use Rattle.bt_writing.specs.Finding.{place_in, location_in, found_in, found_at, type_of, type_at, type_places, typed_or_found, definition_at};
 
 use crate::written::has_opening;
@@ -80,9 +80,7 @@ fn found_at<P: Paper>(
     workspace: &Workspace<'_, P>,
     cursor: &Cursor<'_>,
 ) -> Result<Value, AllocError>
-    ensures { IfOk result (λ v. view v ≡
-        found_at (P.shown workspace.now.paper.now).files workspace.now.editor.documents.now workspace.now.editor.counting
-        cursor.now.document.now cursor.now.at) }
+    ensures { IfOk result (λ v. view v ≡ in_workspace found_at P.shown workspace.now cursor.now.document.now cursor.now.at) }
 {
     let found = found_in(alloc, workspace, word_of(cursor))?;
     Ok(found)
@@ -122,9 +120,7 @@ fn type_places<P: Paper>(
     workspace: &Workspace<'_, P>,
     kind: &[u8],
 ) -> Result<Value, AllocError>
-    ensures { IfOk result (λ v. view v ≡
-        type_places (P.shown workspace.now.paper.now).files workspace.now.editor.documents.now workspace.now.editor.counting
-        kind.now) }
+    ensures { IfOk result (λ v. view v ≡ in_workspace type_places P.shown workspace.now kind.now) }
 {
     let loan = Loan {
         editor: workspace.editor,
@@ -142,8 +138,7 @@ fn typed_or_found<P: Paper>(
     kind: &[u8],
 ) -> Result<Value, AllocError>
     ensures { IfOk result (λ v. view v ≡
-        typed_or_found (P.shown workspace.now.paper.now).files workspace.now.editor.documents.now workspace.now.editor.counting
-        cursor.now.document.now cursor.now.at kind.now) }
+        in_workspace typed_or_found P.shown workspace.now cursor.now.document.now cursor.now.at kind.now) }
 {
     match kind {
         [] => found_at(alloc, workspace, cursor),
@@ -159,8 +154,7 @@ pub fn definition_at<P: Paper>(
     cursor: &Cursor<'_>,
 ) -> Result<Value, AllocError>
     ensures { IfOk result (λ v. view v ≡
-        definition_at (P.shown workspace.now.paper.now).files workspace.now.editor.documents.now workspace.now.editor.counting
-        cursor.now.document.now cursor.now.at) }
+        in_workspace definition_at P.shown workspace.now cursor.now.document.now cursor.now.at) }
 {
     match macro_at(alloc, workspace, cursor)? {
         Some(found) => Ok(found),
