@@ -11,19 +11,19 @@ use crate::words::Words;
 use bt_bib::{Items, Splice, read_bib};
 use bt_text::Bytes;
 use std::alloc::{AllocError, Global};
+use std::ops::Range;
 
 fn spliced(
     alloc: Global,
     text: &[u8],
-    begin: usize,
-    end: usize,
+    range: &Range<usize>,
     bytes: &[u8],
 ) -> Result<Bytes, AllocError>
-    requires order { begin ≤ end }
-    requires inside { end ≤ length text.now }
-    ensures { IfOk result (λ new. IsSplice text.now new begin end (length bytes.now)) }
+    requires order { range.now.start ≤ range.now.end }
+    requires inside { range.now.end ≤ length text.now }
+    ensures { IfOk result (λ new. IsSplice text.now new range.now.start range.now.end (length bytes.now)) }
 {
-    Bytes::of(alloc, &[&text[..begin], bytes, &text[end..]])
+    Bytes::of(alloc, &[&text[..range.start], bytes, &text[range.end..]])
 }
 
 #[derive(Drop)]
@@ -36,18 +36,17 @@ struct Reread {
 fn respliced(
     alloc: Global,
     text: &[u8],
-    begin: usize,
-    end: usize,
+    range: &Range<usize>,
     bytes: &[u8],
 ) -> Result<Reread, AllocError>
-    requires order { begin ≤ end }
-    requires inside { end ≤ length text.now }
+    requires order { range.now.start ≤ range.now.end }
+    requires inside { range.now.end ≤ length text.now }
 {
-    let new = spliced(alloc, text, begin, end, bytes)?;
+    let new = spliced(alloc, text, range, bytes)?;
     let old = read_bib(alloc, text)?;
     let splice = Splice {
-        begin,
-        end,
+        begin: range.start,
+        end: range.end,
         inserted: bytes.len(),
     };
     let edit = old.edit(alloc, text, new.as_slice(), splice)?;
@@ -72,21 +71,20 @@ fn push_items(words: Words<'_>, out: &mut Answer, again: &Reread) -> Done {
     Ok(())
 }
 
-/// What is re-read of a text after other bytes replace those from `begin` to `end`.
+/// What is re-read of a text after other bytes replace those of a range.
 fn push_spliced(
     words: Words<'_>,
     out: &mut Answer,
     text: &[u8],
-    begin: usize,
-    end: usize,
+    range: &Range<usize>,
     bytes: &[u8],
 ) -> Done {
     let is_short = words.word(0) == "respliced_anywhere";
-    if end < begin || text.len() < end {
+    if range.end < range.start || text.len() < range.end {
         put!(out; if is_short { "o" } else { "outside" });
         return Ok(());
     }
-    let again = respliced(words.alloc, text, begin, end, bytes)?;
+    let again = respliced(words.alloc, text, range, bytes)?;
     if !is_short {
         return push_items(words, out, &again);
     }
@@ -101,12 +99,12 @@ pub fn push_answer(words: Words<'_>, out: &mut Answer) -> Done {
     let text = words.text(1)?;
     if words.word(0) == "respliced" {
         let bytes = words.text(4)?;
-        return push_spliced(words, out, &text, words.count(2), words.count(3), &bytes);
+        return push_spliced(words, out, &text, &(words.count(2)..words.count(3)), &bytes);
     }
     let bytes = words.text(3)?;
     for begin in 0..text.len() {
         let end = begin.saturating_add(words.count(2));
-        push_spliced(words, out, &text, begin, end, &bytes)?;
+        push_spliced(words, out, &text, &(begin..end), &bytes)?;
     }
     Ok(())
 }
