@@ -10,6 +10,6 @@ use Rattle.bt_places.specs.Shown.{Shown}
 abbrev pub counting_in : Counting → List Document → List ℕ → Counting
 counting_in c docs uri = elim (document_named uri docs) [ None ↦ c | Some d ↦ d.counting ]
 
--- what is said of files, of open documents and of the editor's counting, for those of a workspace
+-- a definition over files, open documents and the editor's counting, applied to a workspace
 abbrev pub in_workspace : {A P : Type 0} → (List (List ℕ × List ℕ) → List Document → Counting → A) → (P → Shown) → Workspace P → A
 in_workspace f shown w = f (shown w.paper.now).files w.editor.documents.now w.editor.counting

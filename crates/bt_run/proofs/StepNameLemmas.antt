@@ -37,7 +37,7 @@ at_step P ss k s at = ap (λ (o : Option Step). elim o [ None ↦ false | Some t
 below_or_at : (k n : ℕ) → k < n + 1 → (k < n) ⊎ (k ≡ n)
 below_or_at k n lt = elim (cases_lt k n) [ inl below ↦ inl below | inr past ↦ inr (omega (arith, lt, past)) ]
 
--- a place has come to the index
+-- the new index is the old one with one place more
 abbrev IsAdded : Index → Index → StepName → ℕ → Type 0
 IsAdded old new name place =
     (other : StepName) → place_at new other ≡ (if same_name name other then Some place else place_at old other)

@@ -32,7 +32,7 @@ pub struct Reuse {
     pub meter: Meter,
     /// How many steps ran; those that were reused don't count.
     pub ran: u128,
-    /// The cursor: the place of the earlier step to try next. Once a step of the same name is found, it is the place behind
+    /// The cursor: the place of the earlier step to try next. Once a step of the same name is found, it is the place after
     /// that step, whether that one was reused or not.
     pub next: usize,
     pub lookup: Lookup,

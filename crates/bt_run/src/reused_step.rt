@@ -213,7 +213,7 @@ fn like_at<'a>(earlier: &'a [Shared<Step>], place: usize, sought: Sought<'_>) ->
 }
 
 /// The earlier step of this name, if its input agrees in everything that is reached. If there is a step of this name, the
-/// cursor is then behind it, even if it disagrees.
+/// cursor is then after it, even if it disagrees.
 fn meet<'a>(
     alloc: Global,
     earlier: &'a Kept,

@@ -71,7 +71,7 @@ fn push_items(words: Words<'_>, out: &mut Answer, again: &Reread) -> Done {
     Ok(())
 }
 
-/// What is re-read of a text after other bytes replace those of a range.
+/// What is re-read after `bytes` replace the bytes of `text` in `range`.
 fn push_spliced(
     words: Words<'_>,
     out: &mut Answer,

@@ -27,14 +27,14 @@ named_at name ss k = elim (slice_get ss k) [ None ↦ false | Some s ↦ is_name
 abbrev pub IsNamedAt : StepName → List Step → ℕ → Type 0
 IsNamedAt name ss k = named_at name ss k ≡ true
 
--- None of the first so many steps has this name.
+-- None of the first n steps has this name.
 abbrev pub IsUnnamedTo : ℕ → StepName → List Step → Type 0
 IsUnnamedTo n name ss = (k : ℕ) → k < n → named_at name ss k ≡ false
 
 abbrev pub IsUnnamed : StepName → List Step → Type 0
 IsUnnamed name ss = IsUnnamedTo (length ss) name ss
 
--- What the index gives for a name: the place of a step that has it, or None if none of the first so many steps has it.
+-- What the index gives for a name: the place of a step that has it, or None if none of the first n steps has it.
 abbrev pub IsIndexTo : ℕ → List Step → Index → Type 0
 IsIndexTo n ss index =
     (name : StepName) → MatchOption (place_at index name) (IsUnnamedTo n name ss) (IsNamedAt name ss)
