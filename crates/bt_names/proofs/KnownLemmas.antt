@@ -1,16 +1,17 @@
 -- Patterns that are known to have no fault.
-use Rattle.std.proofs.Common.{◌≡◌, ℕ, zero, suc, List, [], ◌∷◌, ◌++◌, None, sym, subst, arith}
+use Rattle.std.proofs.Common.{◌≡◌, zero, suc, List, [], ◌∷◌, ◌++◌, sym, subst, arith}
 use Rattle.std.specs.List.{All}
 use Rattle.std.proofs.lemmas.List.Elements.{All-append}
-use Rattle.bt_names.specs.Patterns.{pattern_fault}
+use Rattle.bt_names.specs.declared.sound_patterns.SoundPattern.{SoundPattern}
+use Rattle.bt_names.specs.inner.Rest.{IsCut}
 
-abbrev pub IsSound : List ℕ → Type 0
-IsSound pattern = pattern_fault pattern ≡ None
+abbrev IsKnown : SoundPattern → Type 0
+IsKnown pattern = IsCut pattern.text pattern.pieces.items
 
-one_sound : (pattern : List ℕ) → IsSound pattern → All IsSound (pattern ∷ [])
-one_sound pattern h zero d lt = h
-one_sound pattern h (suc k) d lt = absurd (omega (arith, lt))
+one_known : (pattern : SoundPattern) → IsKnown pattern → All IsKnown (pattern ∷ [])
+one_known pattern h zero d lt = h
+one_known pattern h (suc k) d lt = absurd (omega (arith, lt))
 
 -- one pattern more
-pub sound_pushed : (known new : List (List ℕ)) (pattern : List ℕ) → All IsSound known → IsSound pattern → new ≡ known ++ pattern ∷ [] → All IsSound new
-sound_pushed known new pattern all sound is = subst (All IsSound) (sym is) (All-append IsSound known (pattern ∷ []) all (one_sound pattern sound))
+pub known_pushed : (known new : List SoundPattern) (pattern : SoundPattern) → All IsKnown known → IsKnown pattern → new ≡ known ++ pattern ∷ [] → All IsKnown new
+known_pushed known new pattern all one is = subst (All IsKnown) (sym is) (All-append IsKnown known (pattern ∷ []) all (one_known pattern one))

@@ -101,18 +101,22 @@ depth_behind_most d b = by_test (eqb b 123) (eqb b 125)
     by_test false false = omega arith
 
 -- No separator stands where its first letter doesn't.
-small_a : (b : ℕ) → (eqb b 97 || eqb b 65) ≡ false → eqb (to_ascii_lowercase b) 97 ≡ false
+small_a : (b : ℕ) → (eqb b 97 || eqb b 65 || eqb b 123 || eqb b 125) ≡ false → eqb (to_ascii_lowercase b) 97 ≡ false
 small_a b h = grind (arith, nat_tests)
 
-no_and : (b : ℕ) (t : List ℕ) → (eqb b 97 || eqb b 65) ≡ false → begins_with_and (b ∷ t) ≡ false
+no_and : (b : ℕ) (t : List ℕ) → (eqb b 97 || eqb b 65 || eqb b 123 || eqb b 125) ≡ false → begins_with_and (b ∷ t) ≡ false
 no_and b [] h = refl
 no_and b (n ∷ []) h = refl
 no_and b (n ∷ d ∷ []) h = refl
 no_and b (n ∷ d ∷ w ∷ t) h = and_left _ (is_white w) (and_left (eqb (to_ascii_lowercase b) 97) _ (small_a b h))
 
-pub no_and_at : (t : List ℕ) (i : ℕ) → i < length t → (eqb (get_or t i 0) 97 || eqb (get_or t i 0) 65) ≡ false → has_and_at t i ≡ false
+pub no_and_at : (t : List ℕ) (i : ℕ) → i < length t → (eqb (get_or t i 0) 97 || eqb (get_or t i 0) 65 || eqb (get_or t i 0) 123 || eqb (get_or t i 0) 125) ≡ false → has_and_at t i ≡ false
 unfolding has_and_at
 no_and_at t i lt h = and_right (follows_white t i) (begins_with_and (drop i t)) (ap begins_with_and (drop_more t i 0 lt) ∙ no_and (get_or t i 0) (drop (i + 1) t) h)
+
+-- The depth changes only at braces.
+pub unmarked_depth : (d b : ℕ) → (eqb b 97 || eqb b 65 || eqb b 123 || eqb b 125) ≡ false → depth_after d b ≡ d
+unmarked_depth d b h = grind (arith, nat_tests)
 
 pub and_at : (t : List ℕ) (i : ℕ) → has_and_at t i ≡ (follows_white t i && begins_with_and (drop i t))
 unfolding has_and_at

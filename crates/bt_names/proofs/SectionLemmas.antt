@@ -4,7 +4,9 @@ use Rattle.std.specs.List.{prefix_len, onto_first}
 use Rattle.std.proofs.lemmas.List.{drop-append-le, drop-drop, take-append-le, take-append-drop}
 use Rattle.std.proofs.lemmas.List.Sums.{sum_by-cons}
 use Rattle.std.proofs.lemmas.Bool.{true≢false, false≢true, cases_Bool, or_parts, not-true, ne_eqb}
+use Rattle.std.proofs.lemmas.Bool.Decides.{nat_tests}
 use Rattle.bt_text.specs.Blocks.{blocks}
+use Rattle.bt_text.specs.ByteTests.{is_white}
 use Rattle.bt_text.specs.Depth.{depth_after}
 use Rattle.bt_text.proofs.BlockLemmas.{blocks_from, blocks_from_start}
 use Rattle.bt_names.specs.declared.tokens.Token.{Token}
@@ -18,6 +20,14 @@ use Rattle.bt_names.proofs.CuttingLemmas.{other_sections_block, single_block, to
 pub single_first : (t : List ℕ) → 0 < length t → get_or t 0 0 ≢ 123 → blocks t ≡ take 1 t ∷ blocks (drop 1 t)
 single_first [] some other = absurd (omega arith)
 single_first (b ∷ t) some other = single_block b t (ne_eqb b 123 other)
+
+-- ---- bytes between tokens
+
+pub parting_low : (b : ℕ) → b < 65 → is_parting b ≡ (is_white b || eqb b 45)
+parting_low b h = grind (arith, nat_tests)
+
+pub parting_high : (b : ℕ) → 65 ≤ b → is_parting b ≡ eqb b 126
+parting_high b h = grind (arith, nat_tests)
 
 -- ---- commas
 

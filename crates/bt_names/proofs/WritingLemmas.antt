@@ -1,13 +1,11 @@
 -- Texts that are longer than a limit.
-use Rattle.std.proofs.Common.{◌≡◌, ℕ, suc, ◌+◌, ◌-◌, ◌*◌, ◌<◌, ◌≤◌, Bool, true, false, cond, List, [], ◌∷◌, ◌++◌, length, map, take, flat_map, subst, sym, ap, ◌∙◌, arith, length-append}
+use Rattle.std.proofs.Common.{◌≡◌, ℕ, suc, ◌+◌, ◌-◌, ◌*◌, ◌<◌, ◌≤◌, Bool, true, false, cond, List, [], ◌∷◌, ◌++◌, length, map, take, subst, sym, ap, ◌∙◌, arith, length-append}
 use Rattle.std.proofs.lemmas.Bool.{true≢false}
 use native.Mathlib.Nat.{suc-mul, zero-mul}
 use Rattle.std.proofs.lemmas.List.{length-map, length-take-le, take-append-le}
 use Rattle.std.proofs.Math.Seq.{take-append_seam}
 use Rattle.bt_names.specs.declared.tokens.Token.{Token}
-use Rattle.bt_text.specs.Blocks.{blocks}
-use Rattle.bt_names.specs.declared.tokens.Parts.{Parts}
-use Rattle.bt_names.specs.Groups.{block_output, ends_in_tie, formatted, group_finished, put_in}
+use Rattle.bt_names.specs.Groups.{ends_in_tie, group_finished, put_in}
 use Rattle.bt_names.specs.Joints.{by_text, is_short, joined}
 use Rattle.bt_names.specs.inner.Spelling.{between_of, spell}
 
@@ -51,10 +49,6 @@ own_longer limit true whole own before ws behind e h =
     let same : length (map (spell whole) ws) ≡ length ws = length-map ws (spell whole) in
     put_in_long limit own before (map (spell whole) ws) behind (subst (λ k. limit + 1 < (k - 1) * length own) (sym same) h)
 own_longer limit false whole own before ws behind e h = absurd (true≢false (sym e))
-
--- What a pattern gives, by its first block.
-pub first_given : (parts : Parts) (t block behind given : List ℕ) → blocks t ≡ block ∷ blocks behind → given ≡ block_output parts block → formatted parts t ≡ given ++ formatted parts behind
-first_given parts t block behind given e is = ap (flat_map (block_output parts)) e ∙ ap (λ (l : List ℕ). l ++ formatted parts behind) (sym is)
 
 -- Where a piece is longer than the limit, the whole is.
 pub piece_longer : (limit : ℕ) (out left given behind old all : List ℕ) → left ≡ given ++ behind → out ++ left ≡ old ++ all → length old ≤ length out → limit < length given → limit < length all

@@ -4,3 +4,4 @@ pub mod Cuts
 pub mod Patterns
 pub mod Spelling
 pub mod Pieces
+pub mod Rest

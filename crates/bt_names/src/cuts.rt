@@ -12,7 +12,7 @@ ghost use Rattle.bt_names.specs.inner.Cases.{is_comma};
 ghost use Rattle.bt_names.specs.inner.Cuts.{begins_token, first_section, other_sections, sections_from};
 
 use crate::lent_tokens::LentToken;
-use bt_text::{block_len, is_separator, is_white};
+use bt_text::{block_len, is_white};
 use std::alloc::AllocError;
 
 /// How many bytes the first block has. Most blocks are one byte, which is known at once.
@@ -69,10 +69,16 @@ pub fn has_many_commas(name: &[u8]) -> bool
     2 < comma_bytes(name) && 2 < comma_count(name)
 }
 
+/// Most bytes of a name are letters; for them two comparisons are enough.
+#[tactic(auto, using(crate::proofs::SectionLemmas::parting_low, crate::proofs::SectionLemmas::parting_high))]
 fn is_parting(byte: u8) -> bool
     ensures { result ≡ is_parting byte }
 {
-    is_white(byte) || is_separator(byte)
+    if byte < b'A' {
+        is_white(byte) || byte == b'-'
+    } else {
+        byte == b'~'
+    }
 }
 
 fn gap_len(text: &[u8]) -> usize

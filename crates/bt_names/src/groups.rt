@@ -6,14 +6,16 @@
 ghost use Rattle.std.specs.Prelude.{◌≡◌, ◌≤◌, ◌++◌, ◌==◌, ◌||◌, false, if◌then◌else◌, IfOk, OnOk, length, take, drop, map};
 ghost use Rattle.std.specs.List.{suffix_len};
 ghost use Rattle.bt_text.specs.ByteTests.{is_separator, space, tie};
-ghost use Rattle.bt_names.specs.Groups.{ends_in_tie, group_finished, put_in};
+ghost use Rattle.bt_names.specs.Groups.{ends_in_tie, group_finished};
 ghost use Rattle.bt_text.specs.Length.{text_length_of};
 ghost use Rattle.bt_names.specs.Joints.{by_signs, by_text, dotted, is_short, joined};
 ghost use Rattle.bt_names.specs.Spelling.{initial};
-ghost use Rattle.bt_names.specs.inner.Spelling.{between_of, form_of, spell, with_linked};
+ghost use Rattle.bt_names.specs.inner.Pieces.{between_in, part_output};
+ghost use Rattle.bt_names.specs.inner.Spelling.{form_of, spell};
 
 use crate::cuts::first_len;
-use crate::lent_tokens::LentToken;
+use crate::lent_tokens::{LentParts, LentToken};
+use crate::pieces::Part;
 use bt_text::{begins_special, is_letter, is_separator, text_length};
 use std::alloc::AllocError;
 
@@ -125,35 +127,8 @@ fn push_dot(out: &mut Vec<u8>, start: usize, is_whole: bool) -> Result<(), Alloc
     Ok(())
 }
 
-/// Appends a token to the group that begins at `start`, with signs between it and the ones before it, and returns whether
-/// the group was short before the last sign.
-#[tactic(auto, using(crate::proofs::GroupLemmas::tail_append, crate::proofs::GroupLemmas::front_append))]
-fn push_linked(
-    out: &mut Vec<u8>,
-    start: usize,
-    was_short: bool,
-    is_whole: bool,
-    token: &LentToken,
-    behind: &[LentToken],
-) -> Result<bool, AllocError>
-    requires within { start ≤ length out.old.items }
-    requires short { was_short ≡ false → 3 ≤ text_length_of (drop start out.old.items) }
-    ensures front { OnOk result (take start out.new.items ≡ take start out.old.items) }
-    ensures size { OnOk result (start ≤ length out.new.items) }
-    ensures group { OnOk result (drop start out.new.items
-        ≡ with_linked is_whole (drop start out.old.items) token.now behind.now) }
-    ensures short { IfOk result (λ short. short ≡ false → 3 ≤ text_length_of (drop start out.new.items)) }
-{
-    push_dot(out, start, is_whole)?;
-    let (_, group) = out.as_slice().split_at(start);
-    let is_short = stays_short(was_short, group);
-    let link = sign(token.before(), behind.is_empty(), is_short);
-    out.push(link)?;
-    out.extend_from_slice(spelling(is_whole, token))?;
-    Ok(is_short)
-}
-
 /// Appends tokens to the group that begins at `start`, with signs before each.
+#[tactic(auto, using(crate::proofs::GroupLemmas::tail_append, crate::proofs::GroupLemmas::front_append))]
 fn push_by_signs(
     out: &mut Vec<u8>,
     start: usize,
@@ -169,7 +144,11 @@ fn push_by_signs(
     let mut is_short = true;
     let mut rest = tokens;
     'walk: while let [token, behind @ ..] = rest {
-        is_short = push_linked(out, start, is_short, is_whole, token, behind)?;
+        push_dot(out, start, is_whole)?;
+        let (_, group) = out.as_slice().split_at(start);
+        is_short = stays_short(is_short, group);
+        out.push(sign(token.before(), behind.is_empty(), is_short))?;
+        out.extend_from_slice(spelling(is_whole, token))?;
         rest = behind;
     }
     Ok(())
@@ -203,44 +182,33 @@ fn push_by_text(
 fn push_others(
     out: &mut Vec<u8>,
     start: usize,
-    has_own: bool,
-    own: &[u8],
-    is_whole: bool,
+    part: Part<'_>,
     tokens: &[LentToken],
 ) -> Result<(), AllocError>
     requires { start ≤ length out.old.items }
     ensures front { OnOk result (take start out.new.items ≡ take start out.old.items) }
     ensures size { OnOk result (start ≤ length out.new.items) }
     ensures group { OnOk result (drop start out.new.items
-        ≡ joined (between_of has_own own.now is_whole) (drop start out.old.items) (map (spell is_whole) tokens.now)) }
+        ≡ joined (between_in part.entry) (drop start out.old.items) (map (spell part.entry.is_whole) tokens.now)) }
 {
-    if has_own {
-        push_by_text(out, start, own, is_whole, tokens)
+    if part.has_own {
+        push_by_text(out, start, part.own, part.is_whole, tokens)
     } else {
-        push_by_signs(out, start, is_whole, tokens)
+        push_by_signs(out, start, part.is_whole, tokens)
     }
 }
 
-/// Appends what a group with a letter gives to `out`, with `own` between tokens if the group has it, otherwise signs.
+/// Appends what a group with a letter gives to `out`.
 #[tactic(auto, using(crate::proofs::GroupLemmas::whole_of, crate::proofs::GroupLemmas::tail_append, crate::proofs::GroupLemmas::front_append))]
-pub fn push_part(
-    out: &mut Vec<u8>,
-    before: &[u8],
-    has_own: bool,
-    own: &[u8],
-    is_whole: bool,
-    tokens: &[LentToken],
-    behind: &[u8],
-) -> Result<(), AllocError>
-    ensures { OnOk result (out.new.items ≡ out.old.items
-        ++ put_in (between_of has_own own.now is_whole) before.now (map (spell is_whole) tokens.now) behind.now) }
+pub fn push_part(out: &mut Vec<u8>, parts: &LentParts, part: Part<'_>) -> Result<(), AllocError>
+    ensures { OnOk result (out.new.items ≡ out.old.items ++ part_output parts.now part.entry) }
 {
-    if let [first, others @ ..] = tokens {
+    if let [first, others @ ..] = parts.named_by(part.letter) {
         let start = out.len();
-        out.extend_from_slice(before)?;
-        out.extend_from_slice(spelling(is_whole, first))?;
-        push_others(out, start, has_own, own, is_whole, others)?;
-        out.extend_from_slice(behind)?;
+        out.extend_from_slice(part.before)?;
+        out.extend_from_slice(spelling(part.is_whole, first))?;
+        push_others(out, start, part, others)?;
+        out.extend_from_slice(part.behind)?;
         finish(out, start);
     }
     Ok(())

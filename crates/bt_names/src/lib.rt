@@ -8,6 +8,7 @@ mod cuts;
 mod faults;
 mod formatted_name;
 mod groups;
+mod kept_pieces;
 mod lent_tokens;
 mod name;
 mod name_parts;
@@ -21,7 +22,7 @@ mod vons;
 mod writing;
 
 pub use faults::{FormatFault, NameFault};
-pub use formatted_name::{format, parts, push_formatted};
+pub use formatted_name::{ListedName, format, parts};
 pub use names::count;
 pub use sound_patterns::SoundPatterns;
 pub use spelling::Form;

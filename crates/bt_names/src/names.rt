@@ -36,40 +36,42 @@ fn has_and_at(text: &[u8], place: usize) -> bool
     follows_white(text, place) && begins_with_and(rest)
 }
 
-/// The first letter of a separator. Most places have another byte, and need no longer test.
-fn begins_separator(byte: u8) -> bool
-    ensures { result ≡ (byte == 97 || byte == 65) }
+/// A brace, or the first letter of a separator. Most bytes are neither, and need no further test.
+fn is_mark(byte: u8) -> bool
+    ensures { result ≡ (byte == 97 || byte == 65 || byte == 123 || byte == 125) }
 {
-    matches!(byte, b'a' | b'A')
+    matches!(byte, b'a' | b'A' | b'{' | b'}')
 }
 
 fn separates(names: &[u8], place: usize, depth: usize) -> bool
     requires { place < length names.now }
     ensures { result ≡ (depth == 0 && has_and_at names.now place) }
 {
-    if begins_separator(names[place]) {
+    if is_mark(names[place]) {
         depth == 0 && has_and_at(names, place)
     } else {
         false
     }
 }
 
-/// The depth after a brace. It stands apart, because the loops below would compute it at each byte.
+/// The depth after a mark. It stands apart, because the loops below would compute it at each byte.
 #[inline(never)]
-fn depth_after_brace(depth: usize, brace: u8) -> usize
+fn depth_after_mark(depth: usize, mark: u8) -> usize
     requires { depth < usize.MAX }
-    ensures { result ≡ depth_after depth brace }
+    ensures { result ≡ depth_after depth mark }
 {
-    depth_after(depth, brace)
+    depth_after(depth, mark)
 }
 
+#[tactic(auto, using(crate::proofs::ListingLemmas::unmarked_depth))]
 fn depth_behind(depth: usize, byte: u8) -> usize
     requires { depth < usize.MAX }
     ensures { result ≡ depth_after depth byte }
 {
-    match byte {
-        b'{' | b'}' => depth_after_brace(depth, byte),
-        _ => depth,
+    if is_mark(byte) {
+        depth_after_mark(depth, byte)
+    } else {
+        depth
     }
 }
 

@@ -1,11 +1,9 @@
 //! Patterns that are known to have no fault.
 //!
 //! A style formats thousands of names in the same few patterns, which are texts in its functions. To compare a pattern with
-//! those is ten times faster than to look for its faults.
+//! those is ten times faster than to look for its faults, and such a pattern is cut into its pieces once.
 
-ghost use Rattle.std.specs.Prelude.{◌≡◌, IsTrue, None};
-ghost use Rattle.bt_names.specs.Patterns.{pattern_fault};
-
+use crate::kept_pieces::{KeptPiece, Rest, kept_pieces};
 use crate::patterns::pattern_fault;
 use bt_text::{Bytes, equal_bytes};
 use memchr::memchr;
@@ -15,24 +13,34 @@ use std::marker::Model;
 /// How many patterns are known at most. Styles have fewer; each costs a comparison of lengths for each name.
 const MOST_PATTERNS: usize = 16;
 
+#[derive(Drop)]
+struct SoundPattern {
+    text: Bytes,
+    pieces: Vec<KeptPiece>,
+}
+
 /// Patterns without a fault. Contracts see the list of them.
 #[derive(Drop)]
 pub struct SoundPatterns {
-    patterns: Vec<Bytes>,
+    patterns: Vec<SoundPattern>,
 }
 
 impl Model for SoundPatterns {
-    ghost use Rattle.std.specs.Prelude.{◌≡◌, All, List, ℕ, None};
-    ghost use Rattle.bt_names.specs.Patterns.{pattern_fault};
+    ghost use Rattle.std.specs.Prelude.{All, List, ℕ, map};
+    ghost use Rattle.bt_names.specs.inner.Rest.{IsCut};
 
     ghost Value = { List (List ℕ) };
 
-    ghost view = { λ known. known.patterns.items };
+    ghost view = { λ known. map (λ pattern. pattern.text) known.patterns.items };
 
-    ghost invariant = { λ known. All (λ p. pattern_fault p ≡ None) known.patterns.items };
+    ghost invariant = { λ known. All (λ pattern. IsCut pattern.text pattern.pieces.items) known.patterns.items };
 }
 
 impl SoundPatterns {
+    ghost use Rattle.std.specs.Prelude.{◌≡◌, IfErr, IfOk, IfSome, Some};
+    ghost use Rattle.bt_names.specs.Patterns.{pattern_fault};
+    ghost use Rattle.bt_names.specs.inner.Rest.{IsCut, IsRestOf};
+
     /// No pattern. It takes no memory.
     pub fn none(alloc: Global) -> SoundPatterns {
         SoundPatterns {
@@ -50,38 +58,37 @@ impl SoundPatterns {
     }
 
     fn add_pattern(&mut self, alloc: Global, pattern: &[u8]) -> Result<(), AllocError> {
-        if self.has(pattern) {
+        if self.pieces_of(pattern).is_some() || pattern_fault(pattern).is_some() {
             return Ok(());
         }
-        match pattern_fault(pattern) {
-            Some(_) => Ok(()),
-            None => {
-                let pattern = Bytes::copied(alloc, pattern)?;
-                self.patterns.push(pattern)?;
-                Ok(())
-            }
-        }
+        let text = Bytes::copied(alloc, pattern)?;
+        let pieces = kept_pieces(alloc, pattern)?;
+        self.patterns.push(SoundPattern { text, pieces })?;
+        Ok(())
     }
 
-    fn has(&self, pattern: &[u8]) -> bool
-        ensures { IsTrue result → pattern_fault pattern.now ≡ None }
+    fn pieces_of(&self, pattern: &[u8]) -> Option<&[KeptPiece]>
+        ensures { IfSome result (λ pieces. IsCut pattern.now pieces.now) }
     {
         'known: for known in self.patterns.as_slice() {
-            if equal_bytes(known.as_slice(), pattern) {
-                return true;
+            if equal_bytes(known.text.as_slice(), pattern) {
+                return Some(&known.pieces);
             }
         }
-        false
+        None
     }
 
-    /// The place of a pattern's first fault.
-    pub fn pattern_fault(&self, pattern: &[u8]) -> Option<usize>
-        ensures { result ≡ pattern_fault pattern.now }
+    /// A pattern without a fault, in pieces if it is known; or the place of its first fault.
+    pub(crate) fn find<'p>(&'p self, pattern: &'p [u8]) -> Result<Rest<'p>, usize>
+        ensures ok { IfOk result (IsRestOf pattern.now) }
+        ensures err { IfErr result (λ place. pattern_fault pattern.now ≡ Some place) }
     {
-        if self.has(pattern) {
-            None
-        } else {
-            pattern_fault(pattern)
+        match self.pieces_of(pattern) {
+            Some(pieces) => Ok(Rest::Pieces(pieces)),
+            None => match pattern_fault(pattern) {
+                Some(place) => Err(place),
+                None => Ok(Rest::Bytes(pattern)),
+            },
         }
     }
 }

@@ -4,15 +4,14 @@
 //! begun if that text alone exceeds the limit. After each piece, the bytes written are compared with the limit.
 
 ghost use Rattle.std.specs.Prelude.{◌≡◌, ◌<◌, ◌+◌, ◌-◌, ◌*◌, ◌++◌, IfOk, IsTrue, None, OnOk, length};
-ghost use Rattle.bt_names.specs.Groups.{formatted};
-ghost use Rattle.bt_names.specs.Patterns.{pattern_fault};
 ghost use Rattle.bt_names.specs.Written.{IsWritten};
 ghost use Rattle.bt_names.specs.inner.Pieces.{piece_output};
+ghost use Rattle.bt_names.specs.inner.Rest.{IsSound, rest_output};
 
-use crate::cuts::first_len;
 use crate::groups::{push_bare, push_part};
+use crate::kept_pieces::Rest;
 use crate::lent_tokens::{LentParts, LentToken};
-use crate::pieces::{Piece, piece_of};
+use crate::pieces::Piece;
 use std::alloc::AllocError;
 
 /// Whether a text was written.
@@ -55,18 +54,7 @@ fn push_piece(out: &mut Vec<u8>, parts: &LentParts, piece: Piece) -> Result<(), 
     match piece {
         Piece::Plain(bytes) => out.extend_from_slice(bytes),
         Piece::Bare(bytes) => push_bare(out, bytes),
-        Piece::Lettered(part) => {
-            let tokens = parts.named_by(part.letter);
-            push_part(
-                out,
-                part.before,
-                part.has_own,
-                part.own,
-                part.is_whole,
-                tokens,
-                part.behind,
-            )
-        }
+        Piece::Lettered(part) => push_part(out, parts, part),
     }
 }
 
@@ -76,16 +64,14 @@ pub fn push_pieces(
     out: &mut Vec<u8>,
     limit: usize,
     parts: &LentParts,
-    pattern: &[u8],
+    pattern: Rest<'_>,
 ) -> Result<Written, AllocError>
-    requires { pattern_fault pattern.now ≡ None }
-    ensures { IfOk result (IsWritten limit (formatted parts.now pattern.now) out.old.items out.new.items) }
+    requires { IsSound pattern }
+    ensures { IfOk result (IsWritten limit (rest_output parts.now pattern.entry) out.old.items out.new.items) }
 {
     let start = out.len();
     let mut rest = pattern;
-    'walk: while !rest.is_empty() {
-        let (block, behind) = rest.split_at(first_len(rest));
-        let piece = piece_of(block);
+    'walk: while let Some((piece, behind)) = rest.next() {
         if is_longer(limit, parts, piece) {
             return Ok(Written::Longer);
         }

@@ -10,7 +10,6 @@ use Rattle.bt_names.specs.Cuts.{Run, comma, is_single}
 use Rattle.bt_names.specs.NameParts.{parts_of}
 use Rattle.bt_names.specs.Patterns.{pattern_fault}
 use Rattle.bt_names.specs.Spelling.{initial}
-use Rattle.bt_names.specs.Joints.{Between, by_text, by_signs, dotted, sign_before}
 use Rattle.bt_names.specs.Groups.{formatted}
 
 abbrev pub is_comma : List ℕ → Bool
@@ -23,11 +22,6 @@ onto_gap block (r ∷ rs) = record { gap = block ++ r.gap; text = r.text } ∷ r
 
 abbrev pub by_initial : Token → Token
 by_initial w = record { text = initial w.text; before = w.before }
-
--- a group's output, with what goes before the token w
-abbrev pub linked : (out : List ℕ) (w : Token) (rest : List Token) → Between → List ℕ
-linked out w rest (by_text text) = out ++ text
-linked out w rest (by_signs form) = dotted form out ++ sign_before (dotted form out) w rest ∷ []
 
 abbrev pub parts_or_fault : Option Parts → Result Parts NameFault
 parts_or_fault None = Err too_many_commas

@@ -1,10 +1,10 @@
 -- How a group spells tokens, and what it puts between them.
-use Rattle.std.specs.Prelude.{Bool, true, false, ℕ, List, ◌++◌, map}
+use Rattle.std.specs.Prelude.{Bool, true, false, ℕ, List}
 use Rattle.bt_names.specs.declared.tokens.Token.{Token}
 use Rattle.bt_names.specs.declared.spelling.Form.{Form}
 use Rattle.bt_names.specs.declared.spelling.Form.TheVariants.{Whole, Initials}
 use Rattle.bt_names.specs.Joints.{Between, by_signs, by_text}
-use Rattle.bt_names.specs.inner.Cases.{by_initial, linked}
+use Rattle.bt_names.specs.inner.Cases.{by_initial}
 
 abbrev pub form_of : Bool → Form
 form_of true = Whole
@@ -18,8 +18,3 @@ spell false w = by_initial w
 abbrev pub between_of : Bool → List ℕ → Bool → Between
 between_of true text whole = by_text text
 between_of false text whole = by_signs (form_of whole)
-
--- the text of a group, and a token after it with signs between
-abbrev pub with_linked : Bool → List ℕ → Token → List Token → List ℕ
-with_linked whole text w behind =
-    linked text (spell whole w) (map (spell whole) behind) (by_signs (form_of whole)) ++ (spell whole w).text
