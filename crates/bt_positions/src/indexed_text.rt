@@ -27,7 +27,7 @@ pub struct Position {
 pub struct IndexedText {
     bytes: Vec<u8>,
     editor: Vec<usize>,
-    /// None if they are the editor's.
+    /// Where lines begin as messages count them; none if they are the editor's.
     bibtex: Option<Vec<usize>>,
     utf16: Vec<usize>,
     latin: Vec<usize>,
@@ -51,14 +51,20 @@ impl IndexedText {
         ensures { IfOk result (λ text. text ≡ bytes.items) }
     {
         let editor = line_starts(alloc, Lines::Editor, bytes.as_slice())?;
-        IndexedText::with_starts(alloc, bytes, editor)
+        let bibtex = own_starts(alloc, bytes.as_slice())?;
+        IndexedText::with_starts(alloc, bytes, editor, bibtex)
     }
 
-    fn with_starts(alloc: Global, bytes: Vec<u8>, editor: Vec<usize>) -> Result<Self, AllocError>
-        requires { editor.items ≡ line_starts Editor 0 bytes.items }
+    fn with_starts(
+        alloc: Global,
+        bytes: Vec<u8>,
+        editor: Vec<usize>,
+        bibtex: Option<Vec<usize>>,
+    ) -> Result<Self, AllocError>
+        requires editor { editor.items ≡ line_starts Editor 0 bytes.items }
+        requires bibtex { starts_or bibtex editor.items ≡ line_starts Bibtex 0 bytes.items }
         ensures { IfOk result (λ text. text ≡ bytes.items) }
     {
-        let bibtex = own_starts(alloc, bytes.as_slice())?;
         let utf16 = marks_of(alloc, Counting::Utf16, bytes.as_slice(), editor.as_slice())?;
         let latin = marks_of(
             alloc,
@@ -82,7 +88,7 @@ impl IndexedText {
         IndexedText::new(alloc, Vec::from_slice(alloc, bytes)?)
     }
 
-    /// The text with a part replaced.
+    /// The text with a part replaced. The only error is out of memory. This text stays as it is.
     pub fn spliced(&self, alloc: Global, splice: &Splice<'_>) -> Result<IndexedText, AllocError>
         requires in_order { splice.now.start ≤ splice.now.end }
         requires within { splice.now.end ≤ length self.now }
@@ -94,7 +100,7 @@ impl IndexedText {
             return IndexedText::new(alloc, bytes);
         }
         let editor = starts_after(alloc, text, self.editor.as_slice(), splice)?;
-        IndexedText::with_starts(alloc, bytes, editor)
+        IndexedText::with_starts(alloc, bytes, editor, None)
     }
 
     /// The bytes.

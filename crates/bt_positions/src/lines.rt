@@ -69,7 +69,7 @@ pub fn has_return(text: &[u8]) -> bool
     memchr(b'\r', text).is_some()
 }
 
-/// The line starts of messages, if they may differ from the editor's: the text has a CR.
+/// Where lines begin as messages count them; none if the text has no CR, since they are then the editor's.
 #[tactic(auto, using(crate::proofs::StartLemmas::without_returns))]
 pub fn own_starts(alloc: Global, text: &[u8]) -> Result<Option<Vec<usize>>, AllocError>
     ensures { IfOk result (λ own. starts_or own (line_starts Editor 0 text.now) ≡ line_starts Bibtex 0 text.now) }

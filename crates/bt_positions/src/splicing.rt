@@ -25,7 +25,8 @@ pub fn bytes_after(alloc: Global, text: &[u8], splice: &Splice<'_>) -> Result<Ve
     ensures { IfOk result (λ bytes. bytes.items ≡ spliced splice.now text.now) }
 {
     let Splice { start, end, new } = *splice;
-    let mut bytes = Vec::with_capacity(alloc, text.len().saturating_add(new.len()))?;
+    let kept = text.len() - (end - start);
+    let mut bytes = Vec::with_capacity(alloc, kept.saturating_add(new.len()))?;
     bytes.extend_from_slice(text.split_at(start).0)?;
     bytes.extend_from_slice(new)?;
     bytes.extend_from_slice(text.split_at(end).1)?;
@@ -49,7 +50,7 @@ fn push_moved(
     Ok(())
 }
 
-/// The line starts of a text after a part of it is replaced, by those before.
+/// The line starts of a text after a part of it is replaced, from those before.
 pub fn starts_after(
     alloc: Global,
     text: &[u8],
@@ -64,9 +65,9 @@ pub fn starts_after(
     ensures { IfOk result (λ all. all.items ≡ line_starts Bibtex 0 (spliced splice.now text.now)) }
 {
     let Splice { start, end, new } = *splice;
-    let mut all = Vec::with_capacity(alloc, starts.len())?;
-    all.extend_from_slice(starts.split_at(lines_before(text, starts, start)).0)?;
     let inner = line_starts(alloc, Lines::Bibtex, new)?;
+    let mut all = Vec::with_capacity(alloc, starts.len().saturating_add(inner.len()))?;
+    all.extend_from_slice(starts.split_at(lines_before(text, starts, start)).0)?;
     push_moved(&mut all, inner.as_slice(), 0, start)?;
     let behind = starts.split_at(lines_before(text, starts, end)).1;
     push_moved(&mut all, behind, end, start + new.len())?;

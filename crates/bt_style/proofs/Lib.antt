@@ -11,7 +11,6 @@ pub mod KeptLemmas
 pub mod ApartLemmas
 pub mod PresetLemmas
 pub mod ReachLemmas
-pub mod NotedLemmas
 pub mod FoundLemmas
 pub mod SearchLemmas
 pub mod ReachedLemmas
