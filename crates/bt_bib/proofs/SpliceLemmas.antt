@@ -315,10 +315,3 @@ pub edited_back : (ps qs : List PlacedPiece) (e : ItemsEdit) → IsItemsEdit ps 
 edited_back ps qs e is =
     is.pieces
     ∙ ap (λ l. (take e.before ps ++ e.new) ++ l) (sym (all_rebased e.stood e.stand is.behind) ∙ (λ j. map (rebased_piece e.stood e.stand) (sym is.stood j)))
-
-least_most : (most : ℕ) (xs : List ℕ) → least most xs ≤ most
-least_most most [] = omega arith
-least_most most (x ∷ xs) = omega (arith, least_most most xs)
-
-pub read_within : (old new : List ℕ) (begin end inserted read : ℕ) → read ≡ reread_upto old new begin end inserted - reread_from old begin → read ≤ length new
-read_within old new begin end inserted read is = omega (arith, is, least_most (length new) (filter (is_common (pieces_of old) begin end inserted) (boundaries (pieces_of new))))

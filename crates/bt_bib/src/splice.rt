@@ -5,12 +5,11 @@
 //! moved places. A piece that ends exactly where the splice begins is re-read, since its end can depend on the byte
 //! after it.
 
-ghost use Rattle.std.specs.Prelude.{◌≡◌, ◌<◌, ◌+◌, ◌-◌, ◌^◌, length, IfOk, OnErr, OnOk};
+ghost use Rattle.std.specs.Prelude.{◌≡◌, ◌-◌, IfOk};
 ghost use Rattle.bt_bib.specs.BibText.{pieces_of};
 
 use crate::boundaries::{count_below, last_boundary};
 use crate::items::Items;
-use crate::meter::ReadMeter;
 use crate::reader::Reader;
 use crate::spot::Spot;
 use std::alloc::{AllocError, Global};
@@ -109,38 +108,6 @@ impl Items {
         let items = front.with_rebased(&old[..edit.before], Spot::ITEM_START, Spot::ITEM_START)?;
         let items = items.with_rebased(new, Spot::ITEM_START, Spot::ITEM_START)?;
         let items = items.with_rebased(&old[edit.upto..], edit.stood, edit.stand)?;
-        Ok(items)
-    }
-
-    /// The items of `new_text`, from these, which must be the items of `old_text`: `edit`, and then `edited`. The meter
-    /// rises by the number of bytes read. The only error is out of memory, which leaves the meter unchanged.
-    pub fn respliced(
-        &self,
-        alloc: Global,
-        old_text: &[u8],
-        new_text: &[u8],
-        start: usize,
-        end: usize,
-        inserted: usize,
-        meter: &mut ReadMeter,
-    ) -> Result<Items, AllocError>
-        requires old { self.now ≡ pieces_of old_text.now }
-        requires splice { IsSplice old_text.now new_text.now start end inserted }
-        requires meter { meter.old + length new_text.now < 2 ^ 128 }
-        ensures pieces { IfOk result (λ items. items ≡ pieces_of new_text.now) }
-        ensures read { OnOk result (meter.new
-            ≡ meter.old + (reread_upto old_text.now new_text.now start end inserted - reread_from old_text.now start)) }
-        ensures err { OnErr result (meter.new ≡ meter.old) }
-    {
-        let splice = Splice {
-            begin: start,
-            end,
-            inserted,
-        };
-        let edit = self.edit(alloc, old_text, new_text, splice)?;
-        let read = edit.read;
-        let items = self.edited(alloc, new_text, &edit)?;
-        meter.raise(read);
         Ok(items)
     }
 }
