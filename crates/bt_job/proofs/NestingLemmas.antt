@@ -55,3 +55,13 @@ file_opens (suc bound) files level file o r h is =
     let one : suc bound - 1 ≡ bound = omega arith in
     file_suc bound files level file r ∙ ap (λ t. opened (file_taken bound files (level + 1)) files level file t r) (sym is)
     ∙ ap (λ n. opened (file_taken n files (level + 1)) files level file o r) (sym one)
+
+-- the same, with levels counted from the root
+pub opens_within : (bound : ℕ) (files : List File) (file : List ℕ) (o : Option (List ℕ)) (r : Progress) → bound ≤ length files + 1 → (bound ≡ 0 → ⊥) → o ≡ text_of files file
+    → file_taken bound files (length files + 1 - bound) file r
+    ≡ opened (file_taken (bound - 1) files (length files + 1 - (bound - 1))) files (length files + 1 - bound) file o r
+opens_within bound files file o r few some is =
+    let level = length files + 1 - bound in
+    let next : level + 1 ≡ length files + 1 - (bound - 1) = omega (arith, few, some) in
+    file_opens bound files level file o r some is
+    ∙ ap (λ n. opened (file_taken (bound - 1) files n) files level file o r) next

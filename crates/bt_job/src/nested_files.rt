@@ -3,7 +3,7 @@
 //! No file is opened twice (`FileNote::AuxTwice`), so files nest no deeper than there are files. The recursion is
 //! bounded by one more than their number, so it always ends; no reading reaches the bound.
 
-ghost use Rattle.std.specs.Prelude.{◌≡◌, ◌<◌, ◌+◌, ◌^◌, IfOk, OnOk};
+ghost use Rattle.std.specs.Prelude.{◌≡◌, ◌≤◌, ◌+◌, ◌-◌, length, IfOk, OnOk};
 ghost use Rattle.bt_job.specs.Fit.{IsFit};
 ghost use Rattle.bt_job.specs.FileNames.{text_of};
 ghost use Rattle.bt_job.specs.Citations.{file_line, citations};
@@ -30,19 +30,26 @@ fn file_line(level: usize, file: Shared<Bytes>) -> Message
     }
 }
 
+/// What the root's files lack if a command isn't there, and if it names nothing.
+#[derive(Clone, Copy)]
+struct Lacks<'a> {
+    command: &'a [u8],
+    named: &'a [u8],
+}
+
 impl Reader {
     /// Takes the lines of a file, with the lines of each file that it nests in the place of the nesting line, at most
-    /// `bound` levels deep.
+    /// `bound` levels deep. The file's own level is `files.len() + 1 - bound`.
     fn take_file(
         &mut self,
         files: &[File],
         known: &mut AuxTexts,
         bound: usize,
-        level: usize,
         file: &Shared<Bytes>,
     ) -> Result<(), AllocError>
-        requires { level + bound < 2 ^ 64 }
-        ensures { OnOk result (self.new.progress ≡ file_taken bound files.now level file.now self.old.progress) }
+        requires { bound ≤ length files.now + 1 }
+        ensures { OnOk result (self.new.progress
+            ≡ file_taken bound files.now (length files.now + 1 - bound) file.now self.old.progress) }
     {
         if bound == 0 {
             return Ok(());
@@ -50,15 +57,13 @@ impl Reader {
         let Some(text) = owned_text_of(files, file.as_slice()) else {
             return Ok(());
         };
-        self.tell(file_line(level, file.share()?))?;
+        self.tell(file_line(files.len() + 1 - bound, file.share()?))?;
         let items = known.lines(self.alloc, text)?;
         'items: for item in items.as_slice() {
             match self.take_item(files, item)? {
                 Outcome::Taken => {}
                 Outcome::Wrong(said) => self.tell_at(file, item.line, said)?,
-                Outcome::Opens(name) => {
-                    self.take_file(files, known, bound - 1, level + 1, &name)?
-                }
+                Outcome::Opens(name) => { self.take_file(files, known, bound - 1, &name)? }
             }
         }
         Ok(())
@@ -79,17 +84,16 @@ impl Reader {
         &mut self,
         met: bool,
         nothing: bool,
-        command: &[u8],
-        named: &[u8],
+        lacks: Lacks<'_>,
         file: &Shared<Bytes>,
     ) -> Result<(), AllocError>
         ensures { OnOk result (self.new.progress
-            ≡ missing_one met nothing command.now named.now file.now self.old.progress) }
+            ≡ missing_one met nothing lacks.entry.command.now lacks.entry.named.now file.now self.old.progress) }
     {
         if !met {
-            self.miss(command, file)
+            self.miss(lacks.command, file)
         } else if nothing {
-            self.miss(named, file)
+            self.miss(lacks.named, file)
         } else {
             Ok(())
         }
@@ -104,21 +108,21 @@ impl Reader {
         let no_databases = asked.databases.as_slice().is_empty();
         let no_style = asked.style.is_none();
         let (citation, database, style) = (asked.citation_met, asked.database_met, asked.style_met);
-        self.miss_one(
-            citation,
-            no_keys,
-            b"\\citation commands",
-            b"cite keys",
-            file,
-        )?;
-        self.miss_one(
-            database,
-            no_databases,
-            b"\\bibdata command",
-            b"database files",
-            file,
-        )?;
-        self.miss_one(style, no_style, b"\\bibstyle command", b"style file", file)
+        let cited = Lacks {
+            command: b"\\citation commands",
+            named: b"cite keys",
+        };
+        let listed = Lacks {
+            command: b"\\bibdata command",
+            named: b"database files",
+        };
+        let styled = Lacks {
+            command: b"\\bibstyle command",
+            named: b"style file",
+        };
+        self.miss_one(citation, no_keys, cited, file)?;
+        self.miss_one(database, no_databases, listed, file)?;
+        self.miss_one(style, no_style, styled, file)
     }
 
     fn read_root(
@@ -137,7 +141,7 @@ impl Reader {
             return self.want(name);
         }
         self.meet(Command::Nested, name)?;
-        self.take_file(files, known, files.len() + 1, 0, file)?;
+        self.take_file(files, known, files.len() + 1, file)?;
         self.end(file)
     }
 }
