@@ -114,27 +114,6 @@ entries_are made was is marked (p ∷ ps) new same some =
     (made_is (marked p) (made p) (was p) (is p) (slice_get (filter_map was (p ∷ ps)) 0) (new p) (same p) first.0 j)
     ((ap (entries_made made marked ps) first.1 ∙ entries_are made was is marked ps new same some.1) j)
 
--- ---- one more
-
-get_drop : (k : ℕ) (es : List Entry) → slice_get (drop k es) 0 ≡ slice_get es k
-get_drop zero es = refl
-get_drop (suc k) [] = refl
-get_drop (suc k) (e ∷ es) = get_drop k es
-
-put_next : (es rest : List Entry) (o : Option Entry) → (es ++ cons_option o []) ++ rest ≡ es ++ cons_option o rest
-put_next es rest None = ap (λ (l : List Entry). l ++ rest) (append-nil es)
-put_next es rest (Some e) = append_assoc es (e ∷ []) rest
-
-pub made_more : (made : ℕ → Option Entry) (marked : ℕ → Bool) (k : ℕ) (places : List ℕ) (old es : List Entry) (p : ℕ) (o : Option Entry) → k < length places → p ≡ get_or places k 0 → o ≡ made_if (marked p) (made p) (slice_get old k) →
-    (es ++ cons_option o []) ++ entries_made made marked (drop (k + 1) places) (drop (k + 1) old) ≡ es ++ entries_made made marked (drop k places) (drop k old)
-made_more made marked k places old es p o less is next =
-    let rest = entries_made made marked (drop (k + 1) places) (drop (k + 1) old) in
-    let here : drop k places ≡ p ∷ drop (k + 1) places = drop_more places k 0 less ∙ ap (λ (x : ℕ). x ∷ drop (k + 1) places) (sym is) in
-    put_next es rest o
-    ∙ ap (λ (e : Option Entry). es ++ cons_option e rest) (next ∙ ap (made_if (marked p) (made p)) (sym (get_drop k old)))
-    ∙ ap (λ (l : List Entry). es ++ cons_option (made_if (marked p) (made p) (slice_get (drop k old) 0)) (entries_made made marked (drop (k + 1) places) l)) (sym (drop-drop 1 k old))
-    ∙ ap (λ (ps : List ℕ). es ++ entries_made made marked ps (drop k old)) (sym here)
-
 -- ---- the values
 
 set_middle : (front rest : List Stored) (s t : Stored) → slice_set (values_read (front ++ s ∷ rest)) (length front) t.values ≡ values_read (front ++ t ∷ rest)

@@ -1,6 +1,6 @@
 -- What an edit of one entry makes of a kept resolution.
 use Rattle.std.proofs.Common.{◌≡◌, ◌∙◌, ap, sym, refl, subst, append_assoc, ℕ, zero, suc, ◌+◌, ◌-◌, ◌<◌, ◌≤◌, IsTrue, List, [], ◌∷◌, ◌++◌, length, map, take, drop, reverse, get_or, Option, Some, None, arith}
-use Rattle.std.specs.Prelude.{IfSome, slice_get, slice_set}
+use Rattle.std.specs.Prelude.{Bool, IfSome, slice_get, slice_set}
 use Rattle.std.proofs.lemmas.List.{length-map}
 use Rattle.std.proofs.lemmas.Option.{slice_get_read, slice_get_within}
 use Rattle.bt_bib.specs.Boundaries.{moved_piece}
@@ -22,6 +22,7 @@ use Rattle.bt_resolve.specs.declared.kept.Found.{Found}
 use Rattle.bt_resolve.specs.declared.kept.ResolvedEdit.{ResolvedEdit}
 use Rattle.bt_resolve.specs.declared.question.Question.{Question}
 use Rattle.bt_resolve.specs.declared.reading.Reach.{Reach}
+use Rattle.bt_resolve.specs.declared.heirs.NewValues.{NewValues}
 use Rattle.bt_resolve.specs.declared.seen_edit.OtherEntries.{OtherEntries}
 use Rattle.bt_resolve.specs.declared.seen_edit.SeenEdit.{SeenEdit}
 use Rattle.bt_resolve.specs.declared.seen_edit.SeenEdit.TheVariants.{Same, Others}
@@ -34,8 +35,9 @@ use Rattle.bt_resolve.specs.Resolved.{all_items, messages, preamble, resolved, s
 use Rattle.bt_resolve.specs.Skeletons.{skeleton, AreAlike, AreInPlace, shown}
 use Rattle.bt_resolve.specs.Listed.{listed}
 use Rattle.bt_resolve.specs.inner.Inheritance.{values_read}
-use Rattle.bt_resolve.specs.inner.Databases.{DefineNothing, State, after_items, after_databases, nothing_read, resolved_of}
-use Rattle.bt_resolve.specs.inner.Kept.{AreBefore, AreKept, IsAround, IsEditOf, IsFound, IsNewSpan, IsPlace, IsResolvedEdit, IsSeenEdit, IsShort, IsStoredEdit, IsSpanEdit, IsSpared, IsWithin, asked_by, items_in, macros_before, macros_behind, mark_of, new_values, other_entries, reaches_for, replaced, resolved_for, stored_for, with_database, with_own, with_seen}
+use Rattle.bt_resolve.specs.inner.Databases.{DefineNothing, State, after_items, after_databases, nothing_read, resolved_after}
+use Rattle.bt_resolve.specs.inner.Heirs.{with_made}
+use Rattle.bt_resolve.specs.inner.Kept.{AreBefore, AreKept, AreOthers, IsAround, IsEditOf, IsFound, IsNewSpan, IsPlace, IsResolvedEdit, IsSeenEdit, IsShort, IsStoredEdit, IsSpanEdit, IsSpared, IsWithin, asked_by, items_in, macros_before, macros_behind, mark_of, new_values, reaches_for, replaced, resolved_for, stored_for, with_database, with_own, with_seen}
 use Rattle.bt_resolve.specs.inner.Patches.{patched}
 use Rattle.bt_resolve.specs.Values.{MacroTexts}
 use Rattle.bt_resolve.specs.inner.Reaches.{database_reaches}
@@ -219,19 +221,23 @@ module _ (q : Question) (number : ℕ) (items old : List PlacedPiece) (e : Items
       spared : (k : ℕ) → IsSpared m k → slice_get (entries_seen a q.min was_stored) k ≡ slice_get (entries_seen a q.min is_stored_now) k
       values : values_read is_stored_now ≡ with_own m (values_read was_stored)
 
-    gives_others : (t : Stored) → OnePatched (length (stored_first a ms ed)) t.values was_stored is_stored_now → (place : ℕ) → place ≡ length (stored_first a ms ed) → Gives (Others (other_entries a q.min f (new_values place t)))
-    gives_others t one place place_is =
+    gives_others : (t : Stored) (o : OtherEntries) (place : ℕ) → OnePatched (length (stored_first a ms ed)) t.values was_stored is_stored_now → place ≡ length (stored_first a ms ed) → AreOthers a q.min f (new_values place t) o → Gives (Others o)
+    gives_others t o place one place_is are =
         let p = length (stored_first a ms ed) in
         let like : AreAlike f.store was_stored = found.stored_alike ∙ ap (λ (ss : List Stored). map skeleton ss) stored_now in
         let values_is : f.values ≡ values_read was_stored = found.values_read ∙ ap values_read stored_now in
         let list_is : f.listed ≡ listed a was_stored = found.list ∙ ap (listed a) stored_now in
         let places_is : f.places ≡ shown a q.min was_stored = found.placed ∙ ap (shown a q.min) stored_now in
-        subst (λ (k : ℕ). Gives (Others (other_entries a q.min f (new_values k t)))) (sym place_is) (record {
-          place = one.inside;
-          entries = sym (others_now a q.min p t.values f.store was_stored is_stored_now f.values f.listed f.places f.all.entries like one values_is list_is places_is entries_now);
-          spared = λ k stays. ap (λ (es : List Entry). slice_get es k) (sym entries_now) ∙ stays_now a q.min p t.values f.store was_stored is_stored_now f.values f.listed f.places f.all.entries like one values_is list_is places_is entries_now k stays;
-          values = sym one.values;
-        })
+        let others : AreOthers a q.min f (new_values p t) o = subst (λ (k : ℕ). AreOthers a q.min f (new_values k t) o) place_is are in
+        record {
+          place = subst (λ (n : NewValues). n.place < length was_stored) (sym others.is_own) one.inside;
+          entries = sym (ap (with_made o.made) (sym entries_now) ∙ others.entries
+              ∙ others_now a q.min p t.values f.store was_stored is_stored_now f.values f.listed f.places f.all.entries like one values_is list_is places_is entries_now);
+          spared = λ k stays. ap (λ (es : List Entry). slice_get es k) (sym entries_now)
+              ∙ stays_now a q.min p t.values f.store was_stored is_stored_now f.values f.listed f.places f.all.entries like one values_is list_is places_is entries_now k
+              (ap (λ (bs : List Bool). slice_get bs k) (sym others.stays) ∙ stays);
+          values = sym one.values ∙ ap (λ (n : NewValues). slice_set (values_read was_stored) n.place n.values) (sym others.is_own);
+        }
 
     -- where nothing of what is stored changes
     gives_same : is_stored_now ≡ was_stored → Gives Same
@@ -249,8 +255,7 @@ module _ (q : Question) (number : ℕ) (items old : List PlacedPiece) (e : Items
         (λ j. slice_get (sym values_is j) (sym place_is j)) ∙ own
         in
         gives_same (stored_of_values is_stored_now was_stored (sym one.alike) (sym one.values ∙ set_itself (values_read was_stored) (length (stored_first a ms ed)) t.values here))
-    stored_so t (Others o) one place place_is are =
-        subst (λ (other : OtherEntries). Gives (Others other)) (sym are) (gives_others t one place place_is)
+    stored_so t (Others o) one place place_is are = gives_others t o place one place_is are
 
     by_stored : (ts : List Stored) → stored_by a ms ed ed.new ≡ ts → IsSeenEdit a q.min r.first.stored f ts made.seen → Gives made.seen
     by_stored [] none is_same = subst Gives (sym is_same) (gives_same (nothing_patched a ms ed in_place none))
@@ -348,7 +353,7 @@ before_made q now number before ds p style known same ds_is here style_is known_
 
 -- what is kept for a question, once all is read
 pub found_is : (q : Question) (a : Asked) (before s : State) (ds : List (List PlacedPiece)) (f : Found) → IsTrue (are_apart q.declared.fields) → a ≡ asked_by q → before ≡ nothing_read q.declared.macros → ds ≡ q.databases →
-    s ≡ after_databases a 1 before (map items_of ds) → f.reaches ≡ database_reaches a 1 before ds → known f.macros ≡ s.macros → f.store ≡ s.stored → f.values ≡ values_read s.stored → f.listed ≡ listed a s.stored → f.places ≡ shown a q.min s.stored → f.all ≡ resolved_of a q.min s.stored s.preamble s.messages → IsFound q f
+    s ≡ after_databases a 1 before (map items_of ds) → f.reaches ≡ database_reaches a 1 before ds → known f.macros ≡ s.macros → f.store ≡ s.stored → f.values ≡ values_read s.stored → f.listed ≡ listed a s.stored → f.places ≡ shown a q.min s.stored → f.all ≡ resolved_after a q.min s → IsFound q f
 found_is q a before s ds f apart a_is before_is ds_is s_is reaches_is macros_are store_is values_are list_is places_are all_is =
     let ms = q.declared.macros in
     let whole : s ≡ after_databases (asked_by q) 1 (nothing_read ms) (items_in q) = s_is ∙ (λ j. after_databases (a_is j) 1 (before_is j) (map items_of (ds_is j))) in

@@ -1,3 +1,5 @@
+pub mod CurrentLemmas
+pub mod MadeAgainLemmas
 pub mod NameLemmas
 pub mod FieldLemmas
 pub mod StoreLemmas

@@ -89,8 +89,3 @@ pub made_of_same : (a : Asked) (min : ℕ) (stored : List Stored) (marks : List 
     entries_made (made_at a min stored vs) (is_marked marks) ps old ≡ entries_made (made_at a min stored ws) (is_marked marks) ps old
 made_of_same a min stored marks vs ws ps old same =
     entries_same (made_at a min stored vs) (made_at a min stored ws) (is_marked marks) ps old (λ p marked. ap (λ (v : Values). entry_at a min stored (λ q. v) p) (same p marked))
-
--- without marks, all entries are made anew
-pub all_made : (made : ℕ → Option Entry) (places : List ℕ) (old : List Entry) → entries_made made (is_marked []) places old ≡ filter_map made places
-all_made made [] old = refl
-all_made made (p ∷ ps) old = ap (λ (es : List Entry). cons_option (made p) es) (all_made made ps (drop 1 old))

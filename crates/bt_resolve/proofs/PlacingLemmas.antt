@@ -25,7 +25,7 @@ use Rattle.bt_resolve.specs.inner.Cases.{type_messages, with_content, preamble_a
 use Rattle.bt_resolve.specs.Stored.{kind_of, stored_among}
 use Rattle.bt_resolve.specs.Warnings.{line_at}
 use Rattle.bt_resolve.specs.Messages.{for_each, stored_messages, item_messages, database_messages}
-use Rattle.bt_resolve.specs.inner.Databases.{State, resolved_of, after_placed, after_items, after_databases, nothing_read}
+use Rattle.bt_resolve.specs.inner.Databases.{State, resolved_of, resolved_after, after_placed, after_items, after_databases, nothing_read}
 use Rattle.bt_resolve.specs.Resolved.{all_items, stored_entries, preamble, messages, resolved}
 
 -- the state is the one after these items, given from the last one back
@@ -117,21 +117,21 @@ messages_are a ms databases = (all_add a ms databases).messages
 
 -- what is resolved, once no database is left
 resolved_by : (a : Asked) (ms : List Macro) (min : ℕ) (databases : List (List PlacedItem)) (s : State) → s ≡ after_databases a 1 (nothing_read ms) databases →
-    resolved_of a min s.stored s.preamble s.messages
+    resolved_after a min s
     ≡ record { entries = entries_seen a min (stored_entries a ms databases); preamble = preamble ms databases; messages = messages a ms databases }
 unfolding messages
 resolved_by a ms min databases s is =
     let read = after_databases a 1 (nothing_read ms) databases in
-    ap (λ (t : State). resolved_of a min t.stored t.preamble t.messages) is
+    ap (resolved_after a min) is
     ∙ ap (λ (stored : List Stored). resolved_of a min stored read.preamble read.messages) (stored_is a ms databases)
     ∙ ap (λ (text : List ℕ). resolved_of a min (stored_entries a ms databases) text read.messages) (preamble_is a ms databases)
     ∙ ap (λ (told : List Message). resolved_of a min (stored_entries a ms databases) (preamble ms databases) told) (messages_are a ms databases)
 
 pub resolved_is : (d : Declared) (c : Cites) (min : ℕ) (databases : List (List PlacedItem)) (a : Asked) (before s : State) (all : Resolved) → a ≡ asked d c → before ≡ nothing_read d.macros →
-    s ≡ after_databases a 1 before databases → all ≡ resolved_of a min s.stored s.preamble s.messages → all ≡ resolved d c databases min
+    s ≡ after_databases a 1 before databases → all ≡ resolved_after a min s → all ≡ resolved d c databases min
 unfolding resolved
 resolved_is d c min databases a before s all is_asked nothing read is =
-    is ∙ ap (λ (b : Asked). resolved_of b min s.stored s.preamble s.messages) is_asked
+    is ∙ ap (λ (b : Asked). resolved_after b min s) is_asked
     ∙ resolved_by (asked d c) d.macros min databases s (read ∙ ap (λ (b : Asked). after_databases b 1 before databases) is_asked ∙ ap (λ (t : State). after_databases (asked d c) 1 t databases) nothing)
 
 -- one piece after others: an item is read, and a comment word is skipped

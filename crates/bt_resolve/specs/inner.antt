@@ -1,4 +1,5 @@
 -- Only helpers, loops and proofs need these. They are no part of the meaning.
+pub mod CurrentValues
 pub mod Names
 pub mod Values
 pub mod JoinedParts

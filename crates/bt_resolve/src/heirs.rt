@@ -10,10 +10,11 @@ ghost use Rattle.std.specs.List.{slice_index_or};
 ghost use Rattle.bt_resolve.specs.inner.Heirs.{AreHeirs, AreSameAt, IsClosed, IsClosedAt, MarksAll, all_heirs, heirs_at, inherits_if, is_marked, marked_at, some_inherit, stays_among};
 ghost use Rattle.bt_resolve.specs.inner.Inheritance.{all_inherit};
 
+use crate::current_values::CurrentValues;
 use crate::family::Family;
 use crate::inheritance::{all_inherit, inherit_at};
 use crate::stored::{FieldValues, Stored};
-use bt_text::{Sequence, Shared, shared_all};
+use bt_text::{Sequence, Shared};
 use std::alloc::{AllocError, Global};
 
 /// New values of a stored entry, before it inherits.
@@ -27,8 +28,8 @@ pub struct NewValues {
 
 /// What the stored entries inherit with new values of one, and which of them are its heirs.
 #[derive(Drop)]
-pub struct Heirs {
-    pub values: Sequence<Shared<FieldValues>>,
+pub struct Heirs<'a> {
+    pub values: CurrentValues<'a>,
     pub marks: Sequence<bool>,
 }
 
@@ -144,9 +145,9 @@ fn inherit_if(
     family: &Family,
     is_needed: bool,
     place: usize,
-    values: &mut Vec<Shared<FieldValues>>,
+    values: &mut CurrentValues<'_>,
 ) -> Result<(), AllocError>
-    ensures { OnOk result (values.new.items ≡ inherits_if is_needed family.now values.old.items place) }
+    ensures { OnOk result (values.new ≡ inherits_if is_needed family.now values.old place) }
 {
     if is_needed {
         inherit_at(alloc, family, place, values)
@@ -161,9 +162,9 @@ fn some_inherit(
     family: &Family,
     marks: &[bool],
     list: &[usize],
-    values: &mut Vec<Shared<FieldValues>>,
+    values: &mut CurrentValues<'_>,
 ) -> Result<(), AllocError>
-    ensures { OnOk result (values.new.items ≡ some_inherit family.now marks.now values.old.items list.now) }
+    ensures { OnOk result (values.new ≡ some_inherit family.now marks.now values.old list.now) }
 {
     'list: for place in list {
         inherit_if(alloc, family, is_marked(marks, *place), *place, values)?;
@@ -177,9 +178,9 @@ fn needed_inherit(
     family: &Family,
     marks: &[bool],
     list: &[usize],
-    values: &mut Vec<Shared<FieldValues>>,
+    values: &mut CurrentValues<'_>,
 ) -> Result<(), AllocError>
-    ensures { OnOk result (AreSameAt marks.now values.new.items (all_inherit family.now values.old.items list.now)) }
+    ensures { OnOk result (AreSameAt marks.now values.new (all_inherit family.now values.old list.now)) }
 {
     if is_closed(family, marks, list) {
         some_inherit(alloc, family, marks, list, values)?;
@@ -190,29 +191,27 @@ fn needed_inherit(
 }
 
 /// The values of all entries, with new ones of one.
-fn values_with(
+fn values_with<'a>(
     alloc: Global,
-    values: &[Shared<FieldValues>],
+    values: &'a [Shared<FieldValues>],
     new: &NewValues,
-) -> Result<Vec<Shared<FieldValues>>, AllocError>
-    ensures { IfOk result (λ all. all.items ≡ slice_set values.now new.now.place new.now.values) }
+) -> Result<CurrentValues<'a>, AllocError>
+    ensures { IfOk result (λ all. all ≡ slice_set values.now new.now.place new.now.values) }
 {
-    let mut all = shared_all(alloc, values)?;
-    if new.place < all.len() {
-        all[new.place] = new.values.share()?;
-    }
+    let mut all = CurrentValues::new(alloc, values)?;
+    all.replace(new.place, new.values.share()?);
     Ok(all)
 }
 
 /// The heirs of the entry that has new values, with what they inherit then. Only the values at marked places count.
 /// `list` has the places of the list, and `values` the entries' own values before.
-pub fn heirs_of(
+pub fn heirs_of<'a>(
     alloc: Global,
     family: &Family,
     list: &[usize],
-    values: &[Shared<FieldValues>],
+    values: &'a [Shared<FieldValues>],
     new: &NewValues,
-) -> Result<Heirs, AllocError>
+) -> Result<Heirs<'a>, AllocError>
     ensures { IfOk result (λ heirs. AreHeirs family.now list.now values.now new.now heirs) }
 {
     let mut marks = marked_at(alloc, family.entries(), new.place)?;
@@ -221,7 +220,7 @@ pub fn heirs_of(
     let needed = needed_for(alloc, family, new.place, marks.as_slice())?;
     needed_inherit(alloc, family, needed.as_slice(), list, &mut values)?;
     Ok(Heirs {
-        values: Sequence::from_vec(values),
+        values,
         marks: Sequence::from_vec(marks),
     })
 }

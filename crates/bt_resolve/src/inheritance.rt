@@ -8,8 +8,8 @@ ghost use Rattle.std.specs.Prelude.{◌≡◌, IfOk, OnOk};
 ghost use Rattle.bt_resolve.specs.Inherited.{inherited};
 ghost use Rattle.bt_resolve.specs.inner.Inheritance.{all_inherit, inherits_at, values_read};
 
+use crate::current_values::CurrentValues;
 use crate::family::Family;
-use crate::seen_values::shared_at;
 use crate::stored::{FieldValues, Stored};
 use bt_text::{Bytes, Shared};
 use std::alloc::{AllocError, Global};
@@ -56,19 +56,16 @@ pub fn inherit_at(
     alloc: Global,
     family: &Family,
     place: usize,
-    values: &mut Vec<Shared<FieldValues>>,
+    values: &mut CurrentValues<'_>,
 ) -> Result<(), AllocError>
-    ensures { OnOk result (values.new.items ≡ inherits_at family.now values.old.items place) }
+    ensures { OnOk result (values.new ≡ inherits_at family.now values.old place) }
 {
     let Some(parent) = family.parent_at(place) else {
         return Ok(());
     };
-    let mine = shared_at(alloc, values.as_slice(), place)?;
-    let theirs = shared_at(alloc, values.as_slice(), parent)?;
-    let filled = inherited(alloc, &mine, &theirs)?;
-    if place < values.len() {
-        values[place] = filled;
-    }
+    let mine = values.at(place)?;
+    let theirs = values.at(parent)?;
+    values.replace(place, inherited(alloc, &mine, &theirs)?);
     Ok(())
 }
 
@@ -77,9 +74,9 @@ pub fn all_inherit(
     alloc: Global,
     family: &Family,
     places: &[usize],
-    values: &mut Vec<Shared<FieldValues>>,
+    values: &mut CurrentValues<'_>,
 ) -> Result<(), AllocError>
-    ensures { OnOk result (values.new.items ≡ all_inherit family.now values.old.items places.now) }
+    ensures { OnOk result (values.new ≡ all_inherit family.now values.old places.now) }
 {
     'places: for place in places {
         inherit_at(alloc, family, *place, values)?;

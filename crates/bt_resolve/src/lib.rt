@@ -2,6 +2,7 @@
 #![tactic(auto)]
 
 mod asked;
+mod current_values;
 mod databases;
 mod declared;
 mod earlier;
@@ -45,4 +46,4 @@ pub use heirs::NewValues;
 pub use kept::{Resolution, ResolvedEdit};
 pub use question::Question;
 pub use resolution::resolve;
-pub use seen_edit::{OtherEntries, SeenEdit};
+pub use seen_edit::{MadeEntry, OtherEntries, SeenEdit};

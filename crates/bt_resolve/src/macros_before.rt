@@ -123,7 +123,7 @@ pub fn strings_end(pieces: &[PlacedPiece]) -> usize
     0
 }
 
-/// The number of the database behind the last one that has a string.
+/// How many databases there are up to the last one that has a string.
 pub fn string_databases(databases: &[Shared<Items>]) -> usize
     ensures { (k : ℕ) → result ≤ k → DefineNothing (all_items (map items_of (drop k databases.now))) }
 {

@@ -81,7 +81,7 @@ fn no_entry(alloc: Global, key: &[u8]) -> Result<Message, AllocError>
     about(alloc, Rank::Warning, key, words, None)
 }
 
-/// A cited key as it is spelled there: the entry's own, shared, if it is the same.
+/// A key as it is spelled where it is cited. If the entry spells it the same, the entry's text is shared.
 fn spelled_as(alloc: Global, cited: &[u8], key: &Shared<Bytes>) -> Result<Shared<Bytes>, AllocError>
     ensures { IfOk result (λ text. text ≡ cited.now) }
 {
@@ -187,7 +187,7 @@ impl<'a> View<'a> {
         self.is_of_key(places[index], key)
     }
 
-    /// Whether a key has an entry. The list mostly has it at the key's index: then nothing is hashed.
+    /// Whether a key has an entry. Usually the list has it at the key's index, so the key isn't hashed.
     fn has_entry(&self, key: &[u8], places: &[usize], index: usize) -> Result<bool, AllocError>
         ensures { IfOk result (λ stored. stored ≡ is_stored self.now.family.now key.now) }
     {

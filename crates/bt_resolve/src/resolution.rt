@@ -6,7 +6,7 @@
 ghost use Rattle.std.specs.Prelude.{◌≡◌, ◌≤◌, ◌++◌, length, map, IfOk, IfSome, IsTrue, OnOk};
 ghost use Rattle.bt_bib.specs.BibText.{pieces_of};
 ghost use Rattle.bt_bib.specs.Items.{items_of};
-ghost use Rattle.bt_resolve.specs.inner.Databases.{after_databases, nothing_read, resolved_of};
+ghost use Rattle.bt_resolve.specs.inner.Databases.{after_databases, nothing_read, resolved_after};
 ghost use Rattle.bt_resolve.specs.inner.Inheritance.{seen_of};
 ghost use Rattle.bt_text.specs.NameList.{are_apart};
 ghost use Rattle.bt_resolve.specs.References.{list_messages};
@@ -57,9 +57,8 @@ fn resolve_texts(
 ) -> Result<Resolved, AllocError>
     requires fields { IsTrue (are_apart asked.now.fields) }
     requires star { IfSome asked.now.star (λ before. before ≤ length asked.now.keys) }
-    ensures { IfOk result (λ all.
-        let s = after_databases asked.now 1 (nothing_read macros.now) (map (λ text. items_of (pieces_of text)) texts.now) in
-        all ≡ resolved_of asked.now min s.stored s.preamble s.messages) }
+    ensures { IfOk result (λ all. all ≡ resolved_after asked.now min
+        (after_databases asked.now 1 (nothing_read macros.now) (map (λ text. items_of (pieces_of text)) texts.now))) }
 {
     let mut read = nothing_read(alloc, macros)?;
     read_texts(alloc, asked, texts, &mut read)?;

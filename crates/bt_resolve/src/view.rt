@@ -1,15 +1,16 @@
 //! The entries that the style sees.
 
-ghost use Rattle.std.specs.Prelude.{◌≡◌, ◌++◌, ◌∷◌, [], Some, not, option_map, true, slice_get, IfOk, IsTrue, OnOk};
+ghost use Rattle.std.specs.Prelude.{◌≡◌, ◌++◌, ◌∷◌, [], Some, filter_map, not, option_map, true, slice_get, IfOk, IfSome, IsTrue, OnOk};
 ghost use Rattle.bt_resolve.specs.Inherited.{entry_seen, final_crossref, is_left_out};
 ghost use Rattle.bt_resolve.specs.declared.stored.Stored.{Stored as StoredSeen};
 ghost use Rattle.bt_resolve.specs.inner.Cases.{entry_at, with_crossref};
 ghost use Rattle.bt_resolve.specs.Names.{crossref, place_of_name};
 ghost use Rattle.bt_resolve.specs.Listed.{is_cited_at, listed};
-ghost use Rattle.bt_resolve.specs.inner.Heirs.{entries_after, is_marked, made_at, made_if};
+ghost use Rattle.bt_resolve.specs.inner.Heirs.{AreMadeAgain, MakesAgain, is_marked, made_at};
 ghost use Rattle.bt_resolve.specs.inner.Inheritance.{seen_of, shown_among};
 
 use crate::asked::Asked;
+use crate::current_values::CurrentValues;
 use crate::entry::Entry;
 use crate::family::Family;
 use crate::fields::CROSSREF;
@@ -17,7 +18,8 @@ use crate::heirs::{Heirs, is_marked};
 use crate::inheritance::{all_inherit, shared, values_read};
 use crate::list::is_cited_at;
 use crate::references::spelled;
-use crate::seen_values::{put_crossref, shared_at};
+use crate::seen_edit::MadeEntry;
+use crate::seen_values::put_crossref;
 use crate::stored::{FieldValues, Stored};
 use bt_text::{Bytes, Sequence, Shared, equal_bytes};
 use std::alloc::{AllocError, Global};
@@ -29,21 +31,6 @@ pub struct Seen {
     pub listed: Sequence<usize>,
     pub places: Sequence<usize>,
     pub entries: Sequence<Entry>,
-}
-
-/// The entry at an index, shared.
-fn shared_entry(entries: &[Entry], index: usize) -> Result<Option<Entry>, AllocError>
-    ensures { IfOk result (λ same. same ≡ slice_get entries.now index) }
-{
-    match entries.get(index) {
-        None => Ok(None),
-        Some(entry) => Ok(Some(Entry {
-            key: entry.key.share()?,
-            kind: entry.kind.share()?,
-            function: entry.function,
-            fields: entry.fields.share()?,
-        })),
-    }
 }
 
 /// The stored entries, for a style with these citations.
@@ -91,8 +78,8 @@ impl View<'_> {
         self.is_of_key(place, keys[index].as_slice())
     }
 
-    /// Whether the list shows the entry at a place. It mostly has the cited key at its index in the list: then nothing is
-    /// hashed.
+    /// Whether the list shows the entry at a place. Usually it has the key that is cited at its index in the list, so no
+    /// key is hashed.
     fn is_shown(&self, place: usize, index: usize) -> Result<bool, AllocError>
         ensures { IfOk result (λ shown. shown
             ≡ not (is_left_out self.now.asked.now self.now.min self.now.family.now place)) }
@@ -194,39 +181,72 @@ impl View<'_> {
         Ok(shown)
     }
 
-    /// The entry at a place after an edit: made anew if it is an heir, and else the old one at an index.
-    fn entry_after(
+    /// The entry at a place, with its current values.
+    fn current_entry(
         &self,
-        heirs: &Heirs,
+        values: &CurrentValues<'_>,
         place: usize,
-        old: &[Entry],
-        index: usize,
     ) -> Result<Option<Entry>, AllocError>
-        ensures { IfOk result (λ seen. seen ≡ made_if (is_marked heirs.now.marks place)
-            (made_at self.now.asked.now self.now.min self.now.family.now heirs.now.values place)
-            (slice_get old.now index)) }
+        ensures { IfOk result (λ seen. seen
+            ≡ made_at self.now.asked.now self.now.min self.now.family.now values.now place) }
     {
-        if is_marked(heirs.marks.as_slice(), place) {
-            let values = shared_at(self.alloc, heirs.values.as_slice(), place)?;
-            self.entry_at(values, place)
-        } else {
-            shared_entry(old, index)
-        }
+        let values = values.at(place)?;
+        self.entry_at(values, place)
     }
 
-    /// The entries at these places after an edit, given those before.
-    pub fn entries_after(
+    /// If the entry at an index of the list is an heir, makes it again. Returns false if nothing is stored at its place.
+    fn make_again(
         &self,
-        heirs: &Heirs,
+        heirs: &Heirs<'_>,
+        place: usize,
+        index: usize,
+        made: &mut Sequence<MadeEntry>,
+    ) -> Result<bool, AllocError>
+        ensures { IfOk result (λ is. IsTrue is → MakesAgain (is_marked heirs.now.marks place)
+            (made_at self.now.asked.now self.now.min self.now.family.now heirs.now.values place)
+            index made.old made.new) }
+    {
+        if !is_marked(heirs.marks.as_slice(), place) {
+            return Ok(true);
+        }
+        let Some(entry) = self.current_entry(&heirs.values, place)? else {
+            return Ok(false);
+        };
+        made.push(MadeEntry { index, entry })?;
+        Ok(true)
+    }
+
+    /// The heirs of a list with these places, made again. None if nothing is stored at the place of one.
+    pub fn made_again(
+        &self,
+        heirs: &Heirs<'_>,
         places: &[usize],
-        old: &[Entry],
+    ) -> Result<Option<Sequence<MadeEntry>>, AllocError>
+        ensures { IfOk result (λ found. IfSome found (AreMadeAgain
+            (made_at self.now.asked.now self.now.min self.now.family.now heirs.now.values)
+            (is_marked heirs.now.marks) places.now)) }
+    {
+        let mut made = Sequence::new(self.alloc);
+        'places: for k in 0..places.len() {
+            if !self.make_again(heirs, places[k], k, &mut made)? {
+                return Ok(None);
+            }
+        }
+        Ok(Some(made))
+    }
+
+    /// The entries at these places, with their current values.
+    fn current_entries(
+        &self,
+        values: &CurrentValues<'_>,
+        places: &[usize],
     ) -> Result<Sequence<Entry>, AllocError>
-        ensures { IfOk result (λ entries. entries ≡ entries_after self.now heirs.now places.now old.now) }
+        ensures { IfOk result (λ entries. entries
+            ≡ filter_map (made_at self.now.asked.now self.now.min self.now.family.now values.now) places.now) }
     {
         let mut entries = Sequence::new(self.alloc);
-        'places: for k in 0..places.len() {
-            let entry = self.entry_after(heirs, places[k], old, k)?;
-            entries.push_if_any(entry)?;
+        'places: for place in places {
+            entries.push_if_any(self.current_entry(values, *place)?)?;
         }
         Ok(entries)
     }
@@ -236,16 +256,12 @@ impl View<'_> {
         requires { places.items ≡ listed self.now.asked.now self.now.family.now }
         ensures { IfOk result (λ seen. seen ≡ seen_of self.now.asked.now self.now.min self.now.family.now) }
     {
-        let mut values = values_read(self.alloc, self.family.entries())?;
+        let read = values_read(self.alloc, self.family.entries())?;
+        let mut values = CurrentValues::new(self.alloc, read.as_slice())?;
         let list = places.as_slice();
         all_inherit(self.alloc, self.family, list, &mut values)?;
         let shown = self.shown_among(list)?;
-        // Without marks, each entry is made anew.
-        let heirs = Heirs {
-            values: Sequence::from_vec(values),
-            marks: Sequence::new(self.alloc),
-        };
-        let entries = self.entries_after(&heirs, shown.as_slice(), &[])?;
+        let entries = self.current_entries(&values, shown.as_slice())?;
         Ok(Seen {
             listed: Sequence::from_vec(places),
             places: shown,

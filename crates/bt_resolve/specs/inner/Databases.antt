@@ -71,3 +71,7 @@ nothing_read macros = record { macros = style_macro macros; stored = []; preambl
 abbrev pub resolved_of : Asked → ℕ → List Stored → List ℕ → List Message → Resolved
 resolved_of a min stored text told =
     record { entries = entries_seen a min stored; preamble = text; messages = told ++ list_messages a stored }
+
+-- what a state after all databases gives
+abbrev pub resolved_after : Asked → ℕ → State → Resolved
+resolved_after a min s = resolved_of a min s.stored s.preamble s.messages

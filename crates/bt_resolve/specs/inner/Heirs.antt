@@ -1,12 +1,12 @@
 -- The heirs of an entry that gets new values, marked one after another, and what is seen then.
-use Rattle.std.specs.Prelude.{◌≡◌, ⊤, ℕ, Bool, true, false, not, List, [], ◌∷◌, drop, map, slice_get, slice_set, Option, Some, None, if◌then◌else◌}
+use Rattle.std.specs.Prelude.{◌≡◌, ⊤, ℕ, ◌++◌, length, Bool, true, false, not, List, [], ◌∷◌, drop, map, slice_get, slice_set, Option, Some, None, if◌then◌else◌}
 use Rattle.std.specs.List.{cons_option, slice_index_or}
 use Rattle.bt_resolve.specs.declared.asked.Asked.{Asked}
 use Rattle.bt_resolve.specs.declared.entry.Entry.{Entry}
 use Rattle.bt_resolve.specs.declared.heirs.Heirs.{Heirs}
 use Rattle.bt_resolve.specs.declared.heirs.NewValues.{NewValues}
 use Rattle.bt_resolve.specs.declared.stored.Stored.{Stored}
-use Rattle.bt_resolve.specs.declared.view.View.{View}
+use Rattle.bt_resolve.specs.declared.seen_edit.MadeEntry.{MadeEntry}
 use Rattle.bt_resolve.specs.inner.Cases.{entry_at, parent_at}
 use Rattle.bt_resolve.specs.inner.Inheritance.{all_inherit, inherits_at}
 
@@ -87,6 +87,18 @@ entries_made made marked (p ∷ ps) old =
 abbrev pub made_at : Asked → ℕ → List Stored → List (List (Option (List ℕ))) → ℕ → Option Entry
 made_at a min stored values p = entry_at a min stored (λ q. slice_index_or values p []) p
 
-abbrev pub entries_after : View → Heirs → List ℕ → List Entry → List Entry
-entries_after v heirs places old =
-    entries_made (made_at v.asked.now v.min v.family.now heirs.values) (is_marked heirs.marks) places old
+-- Entries that were made again take the place of those at their indices.
+abbrev pub with_made : List MadeEntry → List Entry → List Entry
+with_made [] es = es
+with_made (m ∷ ms) es = with_made ms (slice_set es m.index m.entry)
+
+-- The entry at an index is added if it is to be made again. If so, there is one.
+abbrev pub MakesAgain : Bool → Option Entry → ℕ → List MadeEntry → List MadeEntry → Type 0
+MakesAgain false o k before after = after ≡ before
+MakesAgain true None k before after = ⊥
+MakesAgain true (Some e) k before after = after ≡ before ++ record { index = k; entry = e } ∷ []
+
+-- Putting these in place gives what an edit makes of the entries at these places.
+abbrev pub AreMadeAgain : (ℕ → Option Entry) → (ℕ → Bool) → List ℕ → List MadeEntry → Type 0
+AreMadeAgain made marked places ms =
+    (old : List Entry) → length old ≡ length places → with_made ms old ≡ entries_made made marked places old

@@ -30,7 +30,7 @@ use Rattle.bt_resolve.specs.Skeletons.{AreAlike, PairOff, shown}
 use Rattle.bt_resolve.specs.Values.{MacroTexts}
 use Rattle.bt_resolve.specs.inner.Cases.{asked}
 use Rattle.bt_resolve.specs.inner.Databases.{nothing_read}
-use Rattle.bt_resolve.specs.inner.Heirs.{entries_made, heirs_of, is_marked, made_at, stays_among}
+use Rattle.bt_resolve.specs.inner.Heirs.{entries_made, heirs_of, is_marked, made_at, stays_among, with_made}
 use Rattle.bt_resolve.specs.inner.Inheritance.{values_read}
 use Rattle.bt_resolve.specs.inner.Patches.{patched}
 use Rattle.bt_resolve.specs.inner.Reaches.{database_reaches}
@@ -133,7 +133,7 @@ mark_of r = record { stored = nat_lt r.first.stored r.past.stored; told = r.past
 
 abbrev pub with_seen : SeenEdit → List Entry → List Entry
 with_seen Same es = es
-with_seen (Others o) es = o.entries
+with_seen (Others o) es = with_made o.made es
 
 -- the stored entries' own values after an edit
 abbrev pub with_own : SeenEdit → List (List (Option (List ℕ))) → List (List (Option (List ℕ)))
@@ -149,14 +149,17 @@ abbrev pub IsSpared : SeenEdit → ℕ → Type 0
 IsSpared Same k = ⊤
 IsSpared (Others o) k = slice_get o.stays k ≡ Some true
 
+-- the entries that are seen with new values of a stored entry
+abbrev pub entries_with : Asked → ℕ → Found → NewValues → List Entry
+entries_with a min f own =
+    let heirs = heirs_of f.store f.listed f.values own in
+    entries_made (made_at a min f.store heirs.values) (is_marked heirs.marks) f.places f.all.entries
+
 -- what is seen with new values of a stored entry
-abbrev pub other_entries : Asked → ℕ → Found → NewValues → OtherEntries
-other_entries a min f own =
-    let heirs = heirs_of f.store f.listed f.values own in record {
-      own = own;
-      entries = entries_made (made_at a min f.store heirs.values) (is_marked heirs.marks) f.places f.all.entries;
-      stays = stays_among heirs.marks f.places;
-    }
+pub record AreOthers (a : Asked) (min : ℕ) (f : Found) (own : NewValues) (o : OtherEntries) : Type 0 where
+  pub is_own : o.own ≡ own
+  pub entries : with_made o.made f.all.entries ≡ entries_with a min f own
+  pub stays : o.stays ≡ stays_among (heirs_of f.store f.listed f.values own).marks f.places
 
 abbrev pub new_values : ℕ → Stored → NewValues
 new_values place t = record { place = place; values = t.values }
@@ -164,7 +167,7 @@ new_values place t = record { place = place; values = t.values }
 -- what becomes of the entries if this one is stored at a place
 abbrev pub IsStoredEdit : Asked → ℕ → ℕ → Found → Stored → SeenEdit → Type 0
 IsStoredEdit a min place f t Same = slice_get f.values place ≡ Some t.values
-IsStoredEdit a min place f t (Others o) = o ≡ other_entries a min f (new_values place t)
+IsStoredEdit a min place f t (Others o) = AreOthers a min f (new_values place t) o
 
 abbrev pub IsSeenEdit : Asked → ℕ → ℕ → Found → List Stored → SeenEdit → Type 0
 IsSeenEdit a min place f [] e = e ≡ Same
