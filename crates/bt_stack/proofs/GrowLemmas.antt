@@ -1,5 +1,5 @@
 -- A pool that grows keeps each text that lies in it, and so all that is seen of a stack.
-use Rattle.std.proofs.Common.{◌≡◌, ℕ, zero, suc, ◌+◌, ◌≤◌, List, [], ◌∷◌, ◌++◌, length, get_or, take, drop, map, reverse, refl, ap, sym, ◌∙◌, arith, length-append, length-drop}
+use Rattle.std.proofs.Common.{◌≡◌, ℕ, zero, suc, ◌+◌, ◌≤◌, List, [], ◌∷◌, ◌++◌, length, get_or, take, drop, map, reverse, refl, ap, sym, ◌∙◌, arith, append_assoc, length-append, length-drop}
 use Rattle.std.specs.List.{All}
 use Rattle.std.proofs.lemmas.List.{take-append-le, drop-append-le, drop_at}
 use Rattle.bt_actions.specs.Item.{Item}
@@ -7,7 +7,7 @@ use Rattle.bt_stack.specs.declared.value.Value.{Value}
 use Rattle.bt_stack.specs.declared.value.Value.TheVariants as value
 use Rattle.bt_stack.specs.declared.step_variables.StepVariables.{StepVariables}
 use Rattle.bt_stack.specs.Desk.{Desk, with_items}
-use Rattle.bt_stack.specs.inner.Kept.{part, item_in, text_over, items, texts_over, variables_in, desk, Fits, AllFit, IsSound, Grows}
+use Rattle.bt_stack.specs.inner.Kept.{part, item_in, bytes_in, text_over, items, texts_over, variables_in, desk, Fits, AllFit, IsSound, Grows}
 
 pub all_next : {X : Type 0} (P : X → Type 0) (x : X) (xs : List X) → All P (x ∷ xs) → All P xs
 all_next P x xs all k d h = all (suc k) d (omega (arith, h))
@@ -80,6 +80,9 @@ pub desk_kept : (pool pool' : List ℕ) (vs : List Value) (g o : StepVariables) 
 desk_kept pool pool' vs g o old grows sound is_old =
     desk_grown pool pool' vs g o old grows sound is_old (items_kept pool pool' vs old.items grows sound.fit (items_are pool vs g o old is_old))
 
+pub appended : (pool pool' more : List ℕ) → pool' ≡ pool ++ more → Grows pool pool'
+appended pool pool' more is_pool = rw is_pool (ap (λ l. pool ++ l) (sym (drop_at pool more (length pool) refl)))
+
 grown : (pool pool' : List ℕ) → Grows pool pool' → length pool ≤ length pool'
 grown pool pool' grows = omega (arith, ap length grows, length-append pool (drop (length pool) pool'))
 
@@ -91,8 +94,16 @@ fits_more m n (value.Name x) more h = tt
 fits_more m n (value.Block x) more h = tt
 fits_more m n (value.Missing x) more h = tt
 
+pub fits_grown : (pool pool' : List ℕ) (v : Value) → Grows pool pool' → Fits (length pool) v → Fits (length pool') v
+fits_grown pool pool' v grows fits = fits_more _ _ v (grown pool pool' grows) fits
+
+-- bytes after those of a pool that has grown
+pub grown_more : (pool middle pool' more : List ℕ) → Grows pool middle → pool' ≡ middle ++ more → Grows pool pool'
+grown_more pool middle pool' more grows is_pool =
+    appended pool pool' (drop (length pool) middle ++ more) (is_pool ∙ ap (λ l. l ++ more) grows ∙ append_assoc pool (drop (length pool) middle) more)
+
+pub bytes_grown : (pool pool' : List ℕ) (v : Value) → Grows pool pool' → Fits (length pool) v → bytes_in pool' v ≡ bytes_in pool v
+bytes_grown pool pool' v grows fits = ap (λ p. bytes_in p v) grows ∙ text_grows pool (drop (length pool) pool') v [] fits
+
 pub all_fit_more : (pool pool' : List ℕ) (vs : List Value) → Grows pool pool' → AllFit (length pool) vs → AllFit (length pool') vs
 all_fit_more pool pool' vs grows fit k d h = fits_more _ _ (get_or vs k d) (grown pool pool' grows) (fit k d h)
-
-pub appended : (pool pool' more : List ℕ) → pool' ≡ pool ++ more → Grows pool pool'
-appended pool pool' more is_pool = rw is_pool (ap (λ l. pool ++ l) (sym (drop_at pool more (length pool) refl)))

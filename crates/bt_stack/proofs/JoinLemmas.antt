@@ -1,6 +1,6 @@
 -- Two kept texts become one.
-use Rattle.std.proofs.Common.{◌≡◌, ℕ, ◌+◌, ◌-◌, ◌<◌, ◌≤◌, Bool, true, false, List, ◌∷◌, ◌++◌, length, get_or, take, drop, refl, ap, sym, subst, ◌∙◌, arith, length-drop}
-use Rattle.std.proofs.lemmas.List.{take-take, drop-take, drop-drop, length-take-le, take-append-drop, get_or_default}
+use Rattle.std.proofs.Common.{◌≡◌, ℕ, ◌+◌, ◌-◌, ◌<◌, ◌≤◌, Bool, true, false, List, ◌∷◌, ◌++◌, length, get_or, take, drop, refl, ap, sym, subst, ◌∙◌, arith, length-append, length-drop}
+use Rattle.std.proofs.lemmas.List.{take_all, take-take, drop-append-le, drop-take, drop-drop, length-take-le, take-append-drop, get_or_default}
 use Rattle.std.proofs.lemmas.List.Elements.{All-set, All-take}
 use Rattle.std.specs.Prelude.{Option, Some, None, set}
 use Rattle.bt_actions.specs.Item.{Item}
@@ -10,7 +10,7 @@ use Rattle.bt_stack.specs.declared.step_variables.StepVariables.{StepVariables}
 use Rattle.bt_stack.specs.Desk.{Desk, short, with_answer}
 use Rattle.bt_stack.specs.Tops.{joined_two, joined_tops}
 use Rattle.bt_stack.specs.inner.Kept.{part, item_in, bytes_in, items, desk, Fits, AllFit, IsSound, Grows}
-use Rattle.bt_stack.proofs.GrowLemmas.{items_are, items_kept, desk_kept, desk_grown, all_fit_more, appended}
+use Rattle.bt_stack.proofs.GrowLemmas.{items_are, items_kept, desk_kept, desk_grown, bytes_grown, all_fit_more, appended}
 use Rattle.bt_stack.proofs.TopLemmas.{two_tops, items_answered, items_len, text_answered}
 use Rattle.bt_stack.proofs.VariableLemmas.{short_is}
 
@@ -32,6 +32,19 @@ made_joined pool v u start a next b len is_lower is_upper beside lower upper is_
     ap Item.Txt (ap (part pool start) long ∙ sides_joined pool start a b (omega (arith, beside, upper_in.0))
     ∙ ap (λ n. part pool start a ++ part pool n b) beside
     ∙ (λ k. bytes_in pool (sym is_lower k) ++ bytes_in pool (sym is_upper k)))
+
+-- A text that ends a pool, and one that is put after it, are one.
+pub last_part : (pool : List ℕ) (start count : ℕ) → start + count ≡ length pool → drop start pool ≡ part pool start count
+last_part pool start count ends =
+    sym (take_all count (drop start pool) (omega (arith, ends, length-drop start pool)))
+
+pub last_joined : (pool middle pool' : List ℕ) (v u : Value) (start len : ℕ) → Grows pool middle → start ≤ length middle → drop start middle ≡ bytes_in pool v → Fits (length pool) u → pool' ≡ middle ++ bytes_in middle u → len ≡ length (bytes_in pool v) + length (bytes_in pool u) → item_in pool' (value.Made start len) ≡ Item.Txt (bytes_in pool v ++ bytes_in pool u)
+last_joined pool middle pool' v u start len grows within last fits is_pool is_len =
+    let a = bytes_in pool v in
+    let b = bytes_in pool u in
+    let whole : drop start pool' ≡ a ++ b =
+    ap (drop start) is_pool ∙ drop-append-le start middle (bytes_in middle u) within ∙ (λ k. last k ++ bytes_grown pool middle u grows fits k) in
+    ap Item.Txt (ap (take len) whole ∙ take_all len (a ++ b) (omega (arith, is_len, length-append a b)))
 
 -- the two topmost values, read, as one text or none
 tops_joined : (pool : List ℕ) (vs : List Value) (n : ℕ) (v u : Value) (old : List Item) (o : Option Item) → n ≡ length vs → 2 ≤ n → u ≡ get_or vs (n - 2) u → v ≡ get_or vs (n - 1) v → items pool vs ≡ old → o ≡ joined_two (item_in pool u) (item_in pool v) → o ≡ joined_tops old

@@ -1,5 +1,5 @@
 -- What is copied out at a step's end: the variables that it was given, with its values put over them one by one.
-use Rattle.std.proofs.Common.{◌≡◌, ℕ, zero, suc, ℤ, ◌<◌, List, [], ◌∷◌, length, get_or, take, refl, ap, sym, ◌∙◌, arith}
+use Rattle.std.proofs.Common.{◌≡◌, ℕ, zero, suc, ℤ, ◌<◌, List, [], ◌∷◌, ◌++◌, length, take, refl, ap, sym, ◌∙◌, arith}
 use Rattle.std.specs.Prelude.{Option, Some, None, slice_get, unwrap_or}
 use Rattle.bt_actions.specs.Arguments.{as_text}
 use Rattle.bt_stack.specs.declared.value.Value.{Value}
@@ -33,14 +33,13 @@ put_text : (c : Option (List ℕ)) (t : List ℕ) (l : List (List ℕ)) → put 
 put_text None t l = refl
 put_text (Some u) t l = refl
 
-pub copies_next : (cs : List (Option (List ℕ))) (ts : List (List ℕ)) (n : ℕ) (c : Option (List ℕ)) → n < length cs → c ≡ get_or cs n c → copies_over (take (suc n) cs) ts ≡ put c n (copies_over (take n cs) ts)
-copies_next [] ts n c h is_there = absurd (omega (arith, h))
-copies_next (d ∷ cs) [] zero c h is_there = sym (put_nothing c 0)
-copies_next (d ∷ cs) [] (suc n) c h is_there = sym (put_nothing c (suc n))
-copies_next (d ∷ cs) (t ∷ ts) zero c h is_there = sym (put_text c t ts ∙ ap (λ x. unwrap_or x t ∷ ts) is_there)
-copies_next (d ∷ cs) (t ∷ ts) (suc n) c h is_there =
-    ap (λ l. unwrap_or d t ∷ l) (copies_next cs ts n c (omega (arith, h)) is_there)
-    ∙ sym (put_next c n (unwrap_or d t) (copies_over (take n cs) ts))
+pub copies_more : (cs : List (Option (List ℕ))) (ts : List (List ℕ)) (c : Option (List ℕ)) → copies_over (cs ++ c ∷ []) ts ≡ put c (length cs) (copies_over cs ts)
+copies_more [] [] c = sym (put_nothing c 0)
+copies_more [] (t ∷ ts) c = sym (put_text c t ts)
+copies_more (d ∷ cs) [] c = sym (put_nothing c (suc (length cs)))
+copies_more (d ∷ cs) (t ∷ ts) c =
+    ap (λ l. unwrap_or d t ∷ l) (copies_more cs ts c)
+    ∙ sym (put_next c (length cs) (unwrap_or d t) (copies_over cs ts))
 
 copy_same : (pool : List ℕ) (v : Value) (t : List ℕ) → unwrap_or (as_text (item_in pool v)) t ≡ text_over pool v t
 copy_same pool (value.Number n) t = refl

@@ -1,7 +1,7 @@
 //! How two kept texts become one. The text that was made last ends the pool, so joining a piece to it copies only the
 //! piece: a title of ten pieces isn't copied ten times.
 
-ghost use Rattle.std.specs.Prelude.{◌≡◌, ◌≤◌, ◌++◌, ◌+◌, length, option_map, IfSome, IfOk, OnOk, OnErr};
+ghost use Rattle.std.specs.Prelude.{◌≡◌, ◌≤◌, ◌++◌, ◌+◌, length, drop, option_map, IfSome, IfOk, OnOk, OnErr};
 ghost use Rattle.bt_actions.specs.Item.{Txt};
 ghost use Rattle.bt_stack.specs.Tops.{joined_two};
 ghost use Rattle.bt_stack.specs.inner.Kept.{item_in, bytes_in, Fits, Grows};
@@ -13,6 +13,7 @@ use std::alloc::AllocError;
 
 /// Puts the bytes of a kept text at the end of the pool. Those that lie in it go through `scratch`, since a pool can't
 /// be read and written at once, and std's `extend_from_within` goes byte by byte.
+#[inline(always)]
 fn append(pool: &mut Vec<u8>, scratch: &mut Vec<u8>, value: Value) -> Result<(), AllocError>
     requires { Fits (length pool.old.items) value }
     ensures ok { OnOk result (pool.new.items ≡ pool.old.items ++ bytes_in pool.old.items value.entry) }
@@ -29,8 +30,28 @@ fn append(pool: &mut Vec<u8>, scratch: &mut Vec<u8>, value: Value) -> Result<(),
     }
 }
 
+/// Puts a kept text at the end of the pool, unless it lies there, and returns where it begins.
+#[inline(always)]
+#[tactic(auto, using(crate::proofs::JoinLemmas::last_part))]
+fn put_last(pool: &mut Vec<u8>, scratch: &mut Vec<u8>, value: Value) -> Result<usize, AllocError>
+    requires { Fits (length pool.old.items) value }
+    ensures grows { Grows pool.old.items pool.new.items }
+    ensures within { IfOk result (λ start. start ≤ length pool.new.items) }
+    ensures last { IfOk result (λ start. drop start pool.new.items ≡ bytes_in pool.old.items value.entry) }
+{
+    match value {
+        Value::Made(start, count) if start + count == pool.len() => Ok(start),
+        _ => {
+            let start = pool.len();
+            append(pool, scratch, value)?;
+            Ok(start)
+        }
+    }
+}
+
 /// Joins two kept texts of `len` bytes together. If the first one ends the pool, only the second is copied; if they lie
 /// side by side, neither is; otherwise both are copied to the end of the pool.
+#[tactic(auto, using(crate::proofs::JoinLemmas::last_joined, crate::proofs::GrowLemmas::fits_grown, crate::proofs::GrowLemmas::grown_more))]
 fn join_texts<'a>(
     pool: &mut Vec<u8>,
     scratch: &mut Vec<u8>,
@@ -51,13 +72,8 @@ fn join_texts<'a>(
         (Value::Made(start, count), Value::Made(next, _)) if start + count == next => {
             Ok(Value::Made(start, len))
         }
-        (Value::Made(start, count), _) if start + count == pool.len() => {
-            append(pool, scratch, upper)?;
-            Ok(Value::Made(start, len))
-        }
         _ => {
-            let start = pool.len();
-            append(pool, scratch, lower)?;
+            let start = put_last(pool, scratch, lower)?;
             append(pool, scratch, upper)?;
             Ok(Value::Made(start, len))
         }

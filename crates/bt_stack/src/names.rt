@@ -14,7 +14,7 @@ use crate::forms::{OfTextToNumber, answer_empty_in_error, answer_page};
 use crate::state::State;
 use crate::texts::count_fitting;
 use bt_actions::{Complaint, Flow};
-use bt_names::{FormatFault, Written, count, push_formatted};
+use bt_names::{FormatFault, ListedName, Written, count};
 use bt_style::Builtin;
 use bt_text::{Bytes, TEXT_BYTES};
 use std::alloc::{AllocError, Global};
@@ -85,8 +85,8 @@ pub fn format_name(state: &mut State, alloc: Global) -> Result<Flow, AllocError>
     match state.stack.number_at(1) {
         Some(number) => match (state.stack.text_at(2), state.stack.text_at(0)) {
             (Some(names), Some(pattern)) => {
-                let known = state.patterns;
-                match push_formatted(alloc, known, &mut page, names, number, pattern, TEXT_BYTES) {
+                let name = ListedName { names, number };
+                match name.push_formatted(state.patterns, &mut page, pattern, TEXT_BYTES) {
                     Ok(written) => match written {
                         Written::Whole => answer_page(state, 3, page),
                         Written::Longer => {

@@ -78,32 +78,49 @@ fn put_numbers(
     Ok(())
 }
 
-/// Puts a text in its place, if the step gave one.
+fn is_empty_at(left: &Values<Shared<Bytes>>, n: usize) -> bool {
+    match left.get(n) {
+        None => false,
+        Some(text) => text.len() == 0,
+    }
+}
+
+/// Puts a text in its place, if the step gave one. An empty text is usually the one that all variables start with. It has
+/// other owners, so it is replaced, not written over.
 fn put_text(
     alloc: Global,
-    copy: &Option<Bytes>,
+    copy: Option<Bytes>,
     left: &mut Values<Shared<Bytes>>,
     n: usize,
 ) -> Result<(), AllocError>
-    ensures { OnOk result (left.new ≡ put copy.now n left.old) }
+    ensures { OnOk result (left.new ≡ put copy n left.old) }
 {
     match copy {
         None => Ok(()),
-        Some(text) => left.write(alloc, n, text.as_slice()),
+        Some(text) => {
+            if is_empty_at(left, n) {
+                let text = Shared::new(alloc, text)?;
+                left.set(alloc, n, text)
+            } else {
+                left.write(alloc, n, text.as_slice())
+            }
+        }
     }
 }
 
 /// Puts the texts that the step gave over others.
-#[tactic(auto, using(crate::proofs::LeftLemmas::copies_next))]
+#[tactic(auto, using(crate::proofs::LeftLemmas::copies_more))]
 fn put_texts(
     alloc: Global,
-    copies: &[Option<Bytes>],
+    copies: Vec<Option<Bytes>>,
     left: &mut Values<Shared<Bytes>>,
 ) -> Result<(), AllocError>
-    ensures { OnOk result (left.new ≡ copies_over copies.now left.old) }
+    ensures { OnOk result (left.new ≡ copies_over copies.items left.old) }
 {
-    'copies: for n in 0..copies.len() {
-        put_text(alloc, &copies[n], left, n)?;
+    let mut n = 0;
+    'copies: for copy in copies {
+        put_text(alloc, copy, left, n)?;
+        n += 1;
     }
     Ok(())
 }
@@ -177,7 +194,7 @@ impl VariablesLeft {
         }
         let mut left = owned(alloc, given)?;
         put_numbers(alloc, &numbers, &mut left.numbers)?;
-        put_texts(alloc, &texts, &mut left.texts)?;
+        put_texts(alloc, texts, &mut left.texts)?;
         Shared::new(alloc, left)
     }
 }
