@@ -1,5 +1,5 @@
 -- What is left to do in the loop leads to what the definition says.
-use Rattle.std.proofs.Common.{◌≡◌, ℕ, zero, suc, ◌+◌, ◌≤◌, ◌<◌, List, [], ◌∷◌, ◌++◌, length, true, false, Option, Some, None, refl, sym, ap, ◌∙◌, arith, length-append}
+use Rattle.std.proofs.Common.{◌≡◌, ℕ, zero, suc, ◌+◌, ◌≤◌, ◌<◌, List, [], ◌∷◌, ◌++◌, length, true, false, Option, Some, None, refl, sym, ap, ◌∙◌, arith, length-append, Vec, Global}
 use Rattle.std.specs.Prelude.{ℤ, pos, negsuc, map, reverse}
 use Rattle.std.proofs.lemmas.List.{get_or_past, length-map, map-append, reverse-append}
 use Rattle.std.proofs.lemmas.Bool.{false≢true}
@@ -10,7 +10,7 @@ use Rattle.bt_style.specs.declared.style.Op.TheFolds.{fold-roll-Op}
 use Rattle.bt_style.specs.declared.style.Op.TheOpen as shape
 use Rattle.bt_style.specs.declared.style.Op.TheVariants as op
 use Rattle.bt_style.specs.declared.style.Target.{Target}
-use Rattle.bt_style.specs.Tree.{Element, Quoted, Called, Body, End, Then, element_of, element_step, ops_body}
+use Rattle.bt_style.specs.Tree.{Element, Quoted, Braced, Called, Body, End, Then, element_of, element_step, ops_body}
 use Rattle.bt_style.specs.Program.{Definition, Program, definitions_of, definition_of}
 use Rattle.bt_actions.specs.declared.flow.Flow.{Flow}
 use Rattle.bt_actions.specs.declared.flow.Flow.TheVariants.{Go, Stop}
@@ -185,6 +185,9 @@ body_leads p b b' fs gs w k is_body same =
 -- what an element that calls a name is
 pub call_seen : (t : Target) → element_of (op.Call t) ≡ Called t
 call_seen t = ap element_of (sym (op.rolls-Call t)) ∙ fold-roll-Op Element element_step (shape.Call t)
+
+pub block_seen : (inner : Vec Op Global) → element_of (op.Block inner) ≡ Braced (ops_body inner.items)
+block_seen inner = ap element_of (sym (op.rolls-Block inner)) ∙ fold-roll-Op Element element_step (shape.Block inner)
 
 pub quote_seen : (t : Target) → element_of (op.Quote t) ≡ Quoted t
 quote_seen t = ap element_of (sym (op.rolls-Quote t)) ∙ fold-roll-Op Element element_step (shape.Quote t)

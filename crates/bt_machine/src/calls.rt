@@ -266,9 +266,9 @@ pub fn call<'a>(
     }
 }
 
-/// Calls a quoted name. It stands apart, so that `call` is inlined into the loop once.
+/// Calls any name. Not inlined, so that `call` is inlined only once, in the loop.
 #[inline(never)]
-pub fn call_quoted<'a>(
+fn call_apart<'a>(
     state: &mut State<'a>,
     control: &mut Vec<Frame<'a>>,
     context: Context<'a>,
@@ -280,4 +280,26 @@ pub fn call_quoted<'a>(
     ensures more { OnOk result (length control.new.items ≤ length control.old.items + 4) }
 {
     call(state, control, context, target, rest)
+}
+
+/// Calls a quoted name. Most of them are functions of the style, which the loop enters itself.
+#[inline(always)]
+pub fn call_quoted<'a>(
+    state: &mut State<'a>,
+    control: &mut Vec<Frame<'a>>,
+    context: Context<'a>,
+    target: Target,
+    rest: &'a [Op],
+) -> Result<Next<'a>, AllocError>
+    ensures leads { let p = program_of context.entry.style.now in IfOk result (λ next. LeadsTo p state.old state.new
+        (called p (eval p) target) rest.now control.old.items next control.new.items) }
+    ensures more { OnOk result (length control.new.items ≤ length control.old.items + 4) }
+{
+    match target {
+        Target::Function(n) => {
+            let next = enter(control, context.style, n, rest)?;
+            Ok(next)
+        }
+        _ => call_apart(state, control, context, target, rest),
+    }
 }

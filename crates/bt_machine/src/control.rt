@@ -108,6 +108,7 @@ pub fn begin<'a>(
 }
 
 /// Puts a loop before what is left, and returns the body that runs next.
+#[inline(always)]
 pub fn begin_loop<'a>(
     control: &mut Vec<Frame<'a>>,
     rest: &'a [Op],

@@ -1,5 +1,6 @@
 //! Elements that follow one another so often that they are carried out at once: two functions with `if$`, each in braces
-//! or a quoted name, and `'name :=`. A third of plain.bst's ticks are theirs.
+//! or a quoted name, and `'name :=`. A third of plain.bst's ticks are theirs. If `if$` chooses `'skip$`, that runs
+//! at once, too.
 //!
 //! The functions, or the name, aren't put on the stack. So this is done only if there are ticks and places on the stack
 //! for each element by itself. Otherwise they are carried out one by one, and a limit is passed at exactly its element.
@@ -13,10 +14,10 @@ ghost use Rattle.bt_actions.specs.Arguments.{as_number};
 ghost use Rattle.bt_actions.specs.Tally.{with_call};
 ghost use Rattle.bt_actions.specs.View.{code_seen};
 ghost use Rattle.bt_actions.specs.Item.{Name};
-ghost use Rattle.bt_actions.specs.World.{World, with_stack};
+ghost use Rattle.bt_actions.specs.World.{with_stack};
 ghost use Rattle.bt_stack.specs.View.{world_of};
 ghost use Rattle.bt_machine.specs.Eval.{eval, act, builtin_called};
-ghost use Rattle.bt_machine.specs.inner.Loop.{ComesTo, Run, counts, left, putting, by_if, whole};
+ghost use Rattle.bt_machine.specs.inner.Loop.{ComesTo, IsBegun, Run, putting, by_if, whole};
 
 use crate::calls::{Next, next_after};
 use crate::control::{Frame, begin, called_by};
@@ -109,7 +110,7 @@ fn choice_ahead<'a>(state: &State<'a>, tally: &Tally, rest: &'a [Op]) -> Option<
 
 /// The function that `if$` runs.
 #[inline(always)]
-fn chosen<'a>(number: i32, above: Code<'a>, other: Code<'a>) -> Code<'a>
+fn function_of_if<'a>(number: i32, above: Code<'a>, other: Code<'a>) -> Code<'a>
     ensures { Run (code_seen result) ≡ by_if number above.entry other.entry }
 {
     if number > 0 { above } else { other }
@@ -133,7 +134,7 @@ fn choose_at_once<'a>(
     tally.take(None);
     tally.take(Some(Builtin::If));
     state.stack.drop_tops(1);
-    chosen(choice.number, above, choice.other)
+    function_of_if(choice.number, above, choice.other)
 }
 
 /// Whether a function is `skip$`, the most frequent of those that are quoted.
@@ -144,7 +145,7 @@ fn is_skip(code: Code) -> bool
     matches!(code, Code::Name(Target::Builtin(Builtin::Skip)))
 }
 
-/// Puts a function before what is left, and returns the body that runs next. `skip$` runs at once, if it has a tick.
+/// Puts a function before what is left, and returns the body that runs next. `skip$` runs at once, if a tick is left.
 #[inline(always)]
 fn begin_or_skip<'a>(
     control: &mut Vec<Frame<'a>>,
@@ -152,9 +153,8 @@ fn begin_or_skip<'a>(
     rest: &'a [Op],
     code: Code<'a>,
 ) -> Result<&'a [Op], AllocError>
-    ensures same { IfOk result (λ body. (p : Program) (w : World) →
-        left p (whole body.now control.new.items) w (counts tally.new)
-        ≡ left p (Run (code_seen code.entry) ∷ whole rest.now control.old.items) w (counts tally.old)) }
+    ensures same { IfOk result (λ body. IsBegun body.now control.new.items tally.new
+        (Run (code_seen code.entry) ∷ whole rest.now control.old.items) tally.old) }
     ensures ticks { OnOk result (tally.new.ticks ≤ tally.old.ticks) }
     ensures more { OnOk result (length control.new.items ≤ length control.old.items + 4) }
 {
@@ -170,13 +170,11 @@ pub fn put_block<'a>(
     state: &mut State<'a>,
     control: &mut Vec<Frame<'a>>,
     tally: &mut Tally,
-    op: &'a Op,
     above: &'a [Op],
     rest: &'a [Op],
 ) -> Result<Next<'a>, AllocError>
-    requires { element_of op.now ≡ Braced (ops_body above.now) }
-    ensures leads { (p : Program) → IfOk result (λ next. ComesTo p state.old tally.old state.new tally.new
-        (act p (eval p) (element_of op.now)) rest.now control.old.items next control.new.items) }
+    ensures leads { (p : Program) → IfOk result (λ on. ComesTo p state.old tally.old state.new tally.new
+        (act p (eval p) (Braced (ops_body above.now))) rest.now control.old.items on control.new.items) }
     ensures ticks { OnOk result (tally.new.ticks ≤ tally.old.ticks) }
     ensures more { OnOk result (length control.new.items ≤ length control.old.items + 4) }
 {

@@ -73,7 +73,7 @@ fn carry_out<'a>(
             Ok(next)
         }
         Op::Block(ops) => {
-            let next = put_block(state, control, tally, op, ops, rest)?;
+            let next = put_block(state, control, tally, ops, rest)?;
             Ok(next)
         }
         Op::Call(target) => {

@@ -108,6 +108,10 @@ abbrev pub ComesTo : Program → State → Tally → State → Tally → (World 
 ComesTo p old before new after run rest fs next fs' =
     followed p next fs' (world_of new) (counts after) ≡ then_go (run (world_of old) (counts before)) (left p (whole rest fs))
 
+-- Running this body, with what waits, is the same as running these, though ticks and calls may have been taken.
+abbrev pub IsBegun : List Op → List HeldFrame → Tally → List Frame → Tally → Type 0
+IsBegun ops fs after old before = (p : Program) (w : World) → left p (whole ops fs) w (counts after) ≡ left p old w (counts before)
+
 -- what an element of a body does
 abbrev pub op_run : Program → Op → World → Counts → Ending
 op_run p op = act p (eval p) (element_of op)

@@ -1,10 +1,10 @@
 use Rattle.std.proofs.Common.{ap, sym, ◌∙◌}
 use Rattle.bt_style.specs.Program.{program_of}
-use Rattle.bt_style.specs.Tree.{element_of}
+use Rattle.bt_style.specs.Tree.{Braced, element_of, ops_body}
 use Rattle.bt_stack.specs.View.{world_of}
 use Rattle.bt_machine.specs.Eval.{then_go, act, eval}
 use Rattle.bt_machine.specs.inner.Loop.{counts, left, whole}
-use Rattle.bt_machine.proofs.LoopLemmas.{call_seen, quote_seen}
+use Rattle.bt_machine.proofs.LoopLemmas.{block_seen, call_seen, quote_seen}
 use Rattle.bt_machine.proofs.run.carry_out.Goals as goal
 
 pub returns-in_ok-next-in-Call-clause-leads : goal.returns-in_ok-next-in-Call-clause-leads
@@ -22,4 +22,8 @@ returns-in_ok-next-in-Quote-clause-leads c =
     c.in_ok-next-in-Quote.ensures.leads p ∙ ap (λ e. then_go (act p (eval p) e (world_of c.args.state.now) k) (left p (whole c.args.rest.now c.args.control.now.items))) (sym seen)
 
 pub returns-in_ok-next-in-Block-clause-leads : goal.returns-in_ok-next-in-Block-clause-leads
-returns-in_ok-next-in-Block-clause-leads c = c.in_ok-next-in-Block.ensures.leads (program_of c.args.context.style.now)
+returns-in_ok-next-in-Block-clause-leads c =
+    let p = program_of c.args.context.style.now in
+    let k = counts c.args.tally.now in
+    let seen = ap element_of c.in-Block.is ∙ block_seen c.in-Block.ops ∙ ap (λ l. Braced (ops_body l)) (sym c.deref.ensures.value) in
+    c.in_ok-next-in-Block.ensures.leads p ∙ ap (λ e. then_go (act p (eval p) e (world_of c.args.state.now) k) (left p (whole c.args.rest.now c.args.control.now.items))) (sym seen)
