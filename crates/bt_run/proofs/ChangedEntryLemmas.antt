@@ -1,8 +1,9 @@
 -- An edit that changes one entry for READ.
-use Rattle.std.specs.Prelude.{Bool, true, false, not, slice_get, slice_index_or, slice_set, unwrap_or, bytes_eq, IsTrue, ◌||◌, ◌&&◌, if◌then◌else◌}
-use Rattle.std.proofs.Common.{◌≡◌, ◌≢◌, refl, sym, ap, ◌∙◌, subst, inl, inr, ℕ, zero, suc, ◌<◌, List, [], ◌∷◌, ◌++◌, length, map, Option, Some, None, arith}
+use Rattle.std.specs.Prelude.{◌+◌, option_map, Bool, true, false, not, slice_get, slice_index_or, slice_set, unwrap_or, bytes_eq, IsTrue, ◌||◌, ◌&&◌, if◌then◌else◌}
+use Rattle.std.specs.Option.{ForSome, is_some}
+use Rattle.std.proofs.Common.{◌≡◌, ◌≢◌, refl, sym, ap, ◌∙◌, subst, inl, inr, ℕ, zero, suc, ◌<◌, List, [], ◌∷◌, ◌++◌, length, map, take, Option, Some, None, arith}
 use Rattle.std.proofs.lemmas.Bool.{cases_eq}
-use Rattle.std.proofs.lemmas.List.{get_or_default, get_or-set_other, get_or-set_same, length-map, length-set, same_lists}
+use Rattle.std.proofs.lemmas.List.{get_or_default, get_or-set_other, get_or-set_same, length-map, length-set, same_lists, set_comm, take_more}
 use Rattle.std.proofs.lemmas.Option.{unwrap_or-slice_get}
 use Rattle.std.proofs.lemmas.Slice.Eq.{bytes_eq-Decides}
 use Rattle.bt_text.specs.CaseFolding.{folded, is_same_folded}
@@ -23,7 +24,10 @@ use Rattle.bt_resolve.specs.declared.kept.ResolvedEdit.{ResolvedEdit}
 use Rattle.bt_resolve.specs.declared.seen_edit.OtherEntries.{OtherEntries}
 use Rattle.bt_resolve.specs.declared.seen_edit.SeenEdit.{SeenEdit}
 use Rattle.bt_resolve.specs.declared.seen_edit.SeenEdit.TheVariants.{Others}
-use Rattle.bt_resolve.specs.inner.Kept.{IsSpared, items_in, resolved_for, with_database, with_seen}
+use Rattle.bt_resolve.specs.declared.seen_edit.MadeEntry.{MadeEntry}
+use Rattle.bt_resolve.specs.inner.Heirs.{with_made}
+use Rattle.bt_resolve.specs.inner.Kept.{items_in, resolved_for, with_database, with_seen}
+use Rattle.bt_resolve.proofs.MadeAgainLemmas.{with_more}
 use Rattle.bt_resolve.proofs.ApartLemmas.{entries_apart}
 use Rattle.bt_run.specs.declared.change.Change.{Change}
 use Rattle.bt_run.specs.declared.database_edit.DatabaseEdit.{DatabaseEdit}
@@ -36,7 +40,7 @@ use Rattle.bt_run.specs.inner.Beside.{FindsChanged, HasKey}
 use Rattle.bt_run.specs.inner.WalkContext.{IsOnlyRead}
 use Rattle.bt_run.specs.inner.Cases.{job_for, text_in}
 use Rattle.bt_run.specs.inner.Change.{IsAskedOf, IsAskedOfKept}
-use Rattle.bt_run.specs.inner.ChangedEntry.{IsOnlyChanged, IsChangedEntry}
+use Rattle.bt_run.specs.inner.ChangedEntry.{IsChangedEntry, with_other}
 use Rattle.bt_run.specs.inner.Unseen.{AreFilesOf, AreOtherwise, AreTextsOf}
 use Rattle.bt_run.proofs.FindingLemmas.{put_texts, resolved_is, texts_kept}
 use Rattle.bt_run.proofs.FoundBesideLemmas.{keyed_found}
@@ -44,31 +48,34 @@ use Rattle.bt_run.proofs.UnseenLemmas.{gone_over, question_is}
 
 -- One entry is another one
 
-some_number : (m n : ℕ) → Some m ≡ Some n → m ≡ n
-some_number m n h = ap (λ (o : Option ℕ). unwrap_or o 0) h
+set_again : (es : List FoundEntry) (i : ℕ) (e : FoundEntry) → slice_get es i ≡ Some e → slice_set es i e ≡ es
+set_again [] i e at = refl
+set_again (x ∷ es) zero e at = ap (λ (o : Option FoundEntry). unwrap_or o x ∷ es) (sym at)
+set_again (x ∷ es) (suc i) e at = ap (λ (ds : List FoundEntry). x ∷ ds) (set_again es i e at)
 
-pub others_set : (es ds : List FoundEntry) (count place : ℕ) (other : Option ℕ) (d : FoundEntry) → length ds ≡ length es → count ≡ length es → IsOnlyChanged es ds count other → other ≡ Some place → d ≡ slice_index_or ds place d → ds ≡ slice_set es place d
-others_set es ds count place other d counted all only at is =
-    let lt : place < length es = omega (arith, only.within place at, all) in
-    same_lists ds (slice_set es place d) (counted ∙ sym (length-set es place d)) (λ k e within. elim (cases_eq k place) [
-      | inl here ↦
-          subst (λ (i : ℕ). slice_index_or ds i e ≡ slice_index_or (slice_set es place d) i e) (sym here)
-          (get_or_default ds place e d (omega (arith, lt, counted)) ∙ sym is ∙ sym (get_or-set_same es place d e lt))
-      | inr apart ↦
-          let below : k < count = omega (arith, within, counted, all) in
-          let there : slice_get es k ≡ slice_get ds k = only.same k below (λ has. apart (some_number k place (sym has ∙ at))) in
-          sym (ap (λ (o : Option FoundEntry). unwrap_or o e) there ∙ unwrap_or-slice_get ds k e)
-          ∙ unwrap_or-slice_get es k e ∙ sym (get_or-set_other es place k d e apart)
-    ])
+made_more : (ms : List MadeEntry) (k : ℕ) (m : MadeEntry) (es : List FoundEntry) → k < length ms → m ≡ slice_index_or ms k m → with_made (take (k + 1) ms) es ≡ slice_set (with_made (take k ms) es) m.index m.entry
+made_more ms k m es less is =
+    ap (λ (l : List MadeEntry). with_made l es) (take_more ms k m less ∙ ap (λ (o : MadeEntry). take k ms ++ o ∷ []) (sym is))
+    ∙ with_more (take k ms) m es
 
--- the entries that are known to stay
-pub spared_found : (k : KeptResolution) (edit : DatabaseEdit) (made : ResolvedEdit) (others : OtherEntries) → k.edit ≡ Some edit → edit.made ≡ Some made → made.seen ≡ Others others → (n : ℕ) → slice_get others.stays n ≡ Some true → slice_get (resolved_for k.resolution).entries n ≡ slice_get others.entries n
-spared_found k edit made others is_edit is_made seen n stays =
-    let is = k.edited edit is_edit made is_made in
-    is.spared n (subst (λ (e : SeenEdit). IsSpared e n) (sym seen) stays)
-    ∙ ap (λ (es : List FoundEntry). slice_get es n) (is.entries ∙ ap (λ (e : SeenEdit). with_seen e (resolved_for k.resolution).entries) seen)
+-- one more that is the same
+pub made_same : (ms : List MadeEntry) (k : ℕ) (m : MadeEntry) (es : List FoundEntry) (other : Option MadeEntry) → k < length ms → m ≡ slice_index_or ms k m → slice_get es m.index ≡ Some m.entry → ForSome other (λ o. m.index ≢ o.index) → with_made (take k ms) es ≡ with_other other es → with_made (take (k + 1) ms) es ≡ with_other other es
+made_same ms k m es None less is at apart before =
+    made_more ms k m es less is ∙ ap (λ (ds : List FoundEntry). slice_set ds m.index m.entry) before ∙ set_again es m.index m.entry at
+made_same ms k m es (Some o) less is at apart before =
+    made_more ms k m es less is ∙ ap (λ (ds : List FoundEntry). slice_set ds m.index m.entry) before
+    ∙ set_comm es o.index m.index o.entry m.entry (λ same. apart o refl (sym same))
+    ∙ ap (λ (ds : List FoundEntry). slice_set ds o.index o.entry) (set_again es m.index m.entry at)
 
-pub is_other : (k : KeptResolution) (edit : DatabaseEdit) (made : ResolvedEdit) (others : OtherEntries) (all : Resolved) (place : ℕ) (d : FoundEntry) → all ≡ resolved_for k.resolution → k.edit ≡ Some edit → edit.made ≡ Some made → made.seen ≡ Others others → place < length all.entries → others.entries ≡ slice_set all.entries place d → made.messages ≡ all.messages → IsChangedEntry k place d
+-- the first that differs
+pub made_other : (ms : List MadeEntry) (k : ℕ) (m : MadeEntry) (es : List FoundEntry) → k < length ms → m ≡ slice_index_or ms k m → with_made (take k ms) es ≡ es → with_made (take (k + 1) ms) es ≡ with_other (Some m) es
+made_other ms k m es less is before = made_more ms k m es less is ∙ ap (λ (ds : List FoundEntry). slice_set ds m.index m.entry) before
+
+pub none_other : {A : Type 0} (f : A → MadeEntry) (o : Option A) (es : List FoundEntry) → is_some o ≡ false → with_other (option_map f o) es ≡ es
+none_other f None es none = refl
+none_other f (Some x) es none = absurd cc
+
+pub is_other : (k : KeptResolution) (edit : DatabaseEdit) (made : ResolvedEdit) (others : OtherEntries) (all : Resolved) (place : ℕ) (d : FoundEntry) → all ≡ resolved_for k.resolution → k.edit ≡ Some edit → edit.made ≡ Some made → made.seen ≡ Others others → place < length all.entries → with_made others.made all.entries ≡ slice_set all.entries place d → made.messages ≡ all.messages → IsChangedEntry k place d
 is_other k edit made others all place d is is_edit is_made seen within entries messages =
     record {
       edit = edit;
@@ -76,7 +83,7 @@ is_other k edit made others all place d is is_edit is_made seen within entries m
       is_edit = is_edit;
       is_made = is_made;
       within = subst (λ (r : Resolved). place < length r.entries) is within;
-      entries = ap (λ (e : SeenEdit). with_seen e (resolved_for k.resolution).entries) seen ∙ entries ∙ ap (λ (r : Resolved). slice_set r.entries place d) is;
+      entries = ap (λ (e : SeenEdit). with_seen e (resolved_for k.resolution).entries) seen ∙ ap (λ (r : Resolved). with_made others.made r.entries) (sym is) ∙ entries ∙ ap (λ (r : Resolved). slice_set r.entries place d) is;
       messages = messages ∙ ap (λ (r : Resolved). r.messages) is;
     }
 

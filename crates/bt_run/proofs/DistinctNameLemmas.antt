@@ -58,13 +58,13 @@ once_most : (b : Bool) → once_if b ≤ 1
 once_most true = omega arith
 once_most false = omega arith
 
-once_other : (a b : Bool) → a ≡ false → once_if (a && b) ≡ 0
-once_other true b h = absurd cc
-once_other false b h = refl
+once_if_other : (a b : Bool) → a ≡ false → once_if (a && b) ≡ 0
+once_if_other true b h = absurd cc
+once_if_other false b h = refl
 
-once_tells : (b : Bool) → once_if b ≡ 1 → b ≡ true
-once_tells true h = refl
-once_tells false h = absurd (omega (arith, h))
+once_if_tells : (b : Bool) → once_if b ≡ 1 → b ≡ true
+once_if_tells true h = refl
+once_if_tells false h = absurd (omega (arith, h))
 
 differ : (m n : ℕ) → m ≢ n → (m == n) ≡ false
 differ m n h = grind (arith, nat_tests)
@@ -119,8 +119,8 @@ found_key p [] m = refl
 found_key p (e ∷ es) zero = refl
 found_key p (e ∷ es) (suc m) = found_key p es m
 
-key_same : (key a : List ℕ) → once_if (bytes_eq key a) ≡ 1 → key ≡ a
-key_same key a h = (bytes_eq-Decides key a).0 (once_tells (bytes_eq key a) h)
+key_found : (key a : List ℕ) → once_if (bytes_eq key a) ≡ 1 → key ≡ a
+key_found key a h = (bytes_eq-Decides key a).0 (once_if_tells (bytes_eq key a) h)
 
 -- READ finds no two entries of one key.
 keys_found : (job : Job) (number : ℕ) (r : Course) → are_apart job.cites.keys ≡ true → KeysOnce (read job number r).entries
@@ -135,7 +135,7 @@ keys_found job number r cited = λ key.
     (λ m. once_most (bytes_eq key (slice_index_or entries m no_entry).key))
     (λ m n lt below other one two.
     names_differ names m n apart (omega (arith, lt, count, all)) (omega (arith, below, count, all)) other
-    (sym (found_key job.program es m) ∙ sym (key_same key (slice_index_or entries m no_entry).key one) ∙ key_same key (slice_index_or entries n no_entry).key two ∙ found_key job.program es n))
+    (sym (found_key job.program es m) ∙ sym (key_found key (slice_index_or entries m no_entry).key one) ∙ key_found key (slice_index_or entries n no_entry).key two ∙ found_key job.program es n))
     0 (length entries) (omega arith)
 
 -- Steps
@@ -197,7 +197,7 @@ module _ (job : Job) (cited : are_apart job.cites.keys ≡ true) where
 
   step_other : (site : CommandPlace) (t : Target) (x : Option ℕ) (q : Recorded (List Step)) (name : StepName) → (name.command == site.command) ≡ false → count_named name (taken site t x q).seen ≡ count_named name q.seen
   step_other site t x q name other =
-      omega (arith, step_named site t x q name, once_other (name.command == site.command) (bytes_eq (key_or_none name.key) (key_or_none (key_in (input_at t x (course_world q.course))))) other)
+      omega (arith, step_named site t x q name, once_if_other (name.command == site.command) (bytes_eq (key_or_none name.key) (key_or_none (key_in (input_at t x (course_world q.course))))) other)
 
   iterated_other : (site : CommandPlace) (t : Target) (ms : List ℕ) (q : Recorded (List Step)) (name : StepName) → (name.command == site.command) ≡ false → count_named name (iterated app job.program site t ms q).seen ≡ count_named name q.seen
   iterated_other site t [] q name other = refl

@@ -2,6 +2,7 @@ pub mod CourseLemmas
 pub mod OverLemmas
 pub mod WrittenLemmas
 pub mod OrderLemmas
+pub mod AgainLemmas
 pub mod SortingLemmas
 pub mod CommandLemmas
 pub mod ReadingLemmas

@@ -56,15 +56,12 @@ same_names p i names others h g =
     (λ e. found_among names t ((h t).1 ((g t).0 (contained others t e)))) j
 
 -- a step of the earlier run is one of the style
-step_of : (p : Program) (earlier : List Step) (s : Step) → All (IsStep p) earlier → Contains earlier s → IsStep p s
+pub step_of : (p : Program) (earlier : List Step) (s : Step) → All (IsStep p) earlier → Contains earlier s → IsStep p s
 step_of p earlier s all among = subst (IsStep p) among.2 (all among.0 s among.1)
 
 -- what it left is what its input gives
 pub own_outcome : (p : Program) (s : Step) → IsStep p s → s.outcome ≡ outcome_of (step_in p s.input)
 own_outcome p s own = ap (λ (t : Step). t.outcome) own.is
-
-pub true_step : (p : Program) (earlier : List Step) (s : Step) → All (IsStep p) earlier → Contains earlier s → IsStep p s
-true_step p earlier s all among = step_of p earlier s all among
 
 -- what is taken over costs what it cost
 pub taken_cost : (p : Program) (names : List Target) (i : Input) (s : Step) (cost : ℕ) → AgreeingInputsSameStep p → IsFootprint p i names → IsStep p s → Agree (is_among names) s.input i → cost ≡ s.cost → cost ≡ (step_in p i).cost

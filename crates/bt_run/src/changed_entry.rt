@@ -1,12 +1,14 @@
 //! Which entry an edit changes for READ, if it is only one.
 
-ghost use Rattle.std.specs.Prelude.{◌≡◌, ◌<◌, ℕ, IfSome, IsTrue, Some, length, slice_get, slice_set, true};
+ghost use Rattle.std.specs.Prelude.{◌≡◌, ◌≢◌, ◌<◌, false, IfSome, IsTrue, Some, length, option_map, slice_get, slice_set};
+ghost use Rattle.std.specs.Option.{ForSome};
+ghost use Rattle.bt_resolve.specs.inner.Heirs.{with_made};
 ghost use Rattle.bt_run.specs.inner.ChangedEntry.{IsChangedEntry};
 
 use crate::kept_resolution::KeptResolution;
 use crate::reused_step::is_same_number;
 use crate::same_messages::are_same_messages;
-use bt_resolve::{Entry, OtherEntries, Resolved, SeenEdit};
+use bt_resolve::{Entry, MadeEntry, SeenEdit};
 use bt_text::equal_bytes;
 
 /// The changed entry, and its place in the list.
@@ -25,43 +27,52 @@ fn is_same_entry(entry: &Entry, other: &Entry) -> bool
         && entry.fields.is_same(&other.fields)
 }
 
-fn stays(found: &Resolved, others: &OtherEntries, place: usize) -> bool
-    requires within { place < length found.now.entries }
-    requires count { length found.now.entries ≡ length others.now.entries }
-    requires spared { (k : ℕ) → slice_get others.now.stays k ≡ Some true → slice_get found.now.entries k ≡ slice_get others.now.entries k }
-    ensures { IsTrue result → slice_get found.now.entries place ≡ slice_get others.now.entries place }
+/// Whether an entry that was made again is the one at its index.
+fn is_same_made(entries: &[Entry], made: &MadeEntry) -> bool
+    ensures { IsTrue result → slice_get entries.now made.now.index ≡ Some made.now.entry }
 {
-    if let Some(stays) = others.stays.as_slice().get(place)
-        && *stays
-    {
-        return true;
+    match entries.get(made.index) {
+        None => false,
+        Some(entry) => is_same_entry(entry, &made.entry),
     }
-    let (entries, news) = (found.entries.as_slice(), others.entries.as_slice());
-    is_same_entry(&entries[place], &news[place])
 }
 
-/// The entry that differs, if no other one does.
-fn only_changed<'a>(found: &Resolved, others: &'a OtherEntries) -> Option<ChangedEntry<'a>>
-    requires { (k : ℕ) → slice_get others.now.stays k ≡ Some true → slice_get found.now.entries k ≡ slice_get others.now.entries k }
-    ensures within { IfSome result (λ o. o.place < length found.now.entries) }
-    ensures entries { IfSome result (λ o. others.entry.now.entries ≡ slice_set found.now.entries o.place o.entry.now) }
+/// Whether an entry that was made again is for the same index as another one, if there is another.
+fn is_for_same(made: &MadeEntry, other: Option<&MadeEntry>) -> bool
+    ensures { result ≡ false → ForSome (option_map (λ o. o.now) other.entry) (λ o. made.now.index ≢ o.index) }
 {
-    let count = found.entries.len();
-    if others.entries.len() != count {
-        return None;
+    match other {
+        None => false,
+        Some(other) => made.index == other.index,
     }
+}
+
+/// The one of these that differs from the entry at its index, if no other one does.
+fn only_changed<'a>(entries: &[Entry], made: &'a [MadeEntry]) -> Option<ChangedEntry<'a>>
+    ensures within { IfSome result (λ o. o.place < length entries.now) }
+    ensures entries { IfSome result (λ o. with_made made.entry.now entries.now ≡ slice_set entries.now o.place o.entry.now) }
+{
     let mut other = None;
-    'places: for place in 0..count {
-        if !stays(found, others, place) {
+    'made: for number in 0..made.len() {
+        let one = &made[number];
+        if is_for_same(one, other) {
+            return None;
+        }
+        if !is_same_made(entries, one) {
             if other.is_some() {
                 return None;
             }
-            other = Some(place);
+            other = Some(one);
         }
     }
-    let place = other?;
-    let entry = &others.entries.as_slice()[place];
-    Some(ChangedEntry { place, entry })
+    let other = other?;
+    if other.index >= entries.len() {
+        return None;
+    }
+    Some(ChangedEntry {
+        place: other.index,
+        entry: &other.entry,
+    })
 }
 
 impl KeptResolution {
@@ -78,7 +89,7 @@ impl KeptResolution {
         match &made.seen {
             SeenEdit::Same => None,
             SeenEdit::Others(others) => {
-                let other = only_changed(found, others)?;
+                let other = only_changed(found.entries.as_slice(), others.made.as_slice())?;
                 Some(other)
             }
         }

@@ -21,27 +21,19 @@ use bt_style::{Action, Command};
 use bt_text::{Bytes, Sequence, Shared};
 use std::alloc::{AllocError, Global};
 
-/// The places of the entries, sorted. If the previous run had as many entries, this starts from its order, which is
-/// mostly the new one, or nearly so.
+/// The places of the entries, sorted. This starts from the previous run's order, which is nearly sorted if the list is the
+/// same or only its end has changed.
 fn sorted_again(
     alloc: Global,
     earlier: &Kept,
     course: &Course,
 ) -> Result<Sequence<usize>, AllocError>
-    requires { IsOrdered course.now }
     ensures { IfOk result (λ order. order ≡ (sorted_run course.now).order) }
 {
     let entries = course.entries.as_slice();
-    match earlier.order_for(entries) {
-        Some(before) => {
-            let order = sorted_places(alloc, entries, before)?;
-            Ok(order)
-        }
-        None => {
-            let order = sorted_places(alloc, entries, course.order.as_slice())?;
-            Ok(order)
-        }
-    }
+    let before = earlier.order_for(alloc, entries.len())?;
+    let order = sorted_places(alloc, entries, before.as_slice())?;
+    Ok(order)
 }
 
 fn sort(job: Job<'_>, course: &mut Course) -> Result<(), AllocError>

@@ -1,6 +1,6 @@
 //! What is kept of a run for the next one.
 
-ghost use Rattle.std.specs.Prelude.{◌≡◌, None, [], length, map, IfSome};
+ghost use Rattle.std.specs.Prelude.{◌≡◌, None, [], length, map, IfOk, IfSome};
 ghost use Rattle.bt_bib.specs.BibText.{pieces_of};
 ghost use Rattle.bt_bib.specs.Splice.{IsSplice};
 ghost use Rattle.bt_run.specs.Steps.{StepsAre};
@@ -18,6 +18,7 @@ use crate::course::Step;
 use crate::kept_resolution::KeptResolution;
 use crate::mark::Mark;
 use crate::readings::Readings;
+use crate::sort_command::order_again;
 use bt_actions::Entry;
 use bt_bib::{Items, Splice};
 use bt_text::{Bytes, Sequence, Shared};
@@ -77,14 +78,12 @@ impl Kept {
         }
     }
 
-    /// The order at the end of the run, if it had as many entries as these.
-    pub fn order_for(&self, entries: &[Entry]) -> Option<&[usize]>
-        ensures { IfSome result (λ order. IsArranged (length entries.now) order.now) }
+    /// The order at the end of the run, fitted to `count` entries: places beyond them are dropped, and new ones go last.
+    pub fn order_for(&self, alloc: Global, count: usize) -> Result<Vec<usize>, AllocError>
+        ensures { IfOk result (λ order. IsArranged count order.items) }
     {
-        if self.entries.len() == entries.len() {
-            return Some(self.order.as_slice());
-        }
-        None
+        let order = order_again(alloc, self.order.as_slice(), self.entries.len(), count)?;
+        Ok(order)
     }
 
     /// The items of a text, if READ found something in a database of this text.

@@ -2,6 +2,7 @@
 
 ghost use Rattle.std.specs.Prelude.{◌≡◌, ◌<◌, [], Some, IfOk, IfSome, IsTrue, OnOk, length};
 ghost use Rattle.bt_style.specs.Program.{program_of};
+ghost use Rattle.bt_actions.specs.World.{entry_in};
 ghost use Rattle.bt_machine.specs.OwnEntry.{IsPlace};
 ghost use Rattle.bt_run.specs.Course.{course_world, input_at};
 ghost use Rattle.bt_run.specs.inner.Earlier.{AreSame};
@@ -150,10 +151,12 @@ impl KeptSteps {
     fn make_step(
         &mut self,
         command: StepCommand<'_>,
+        place: Option<usize>,
         input: Input,
         course: &Course,
     ) -> Result<Shared<Step>, AllocError>
-        requires { IsConsistent (program_of command.job.style.now) command.job.earlier.now (course_world course.now) self.old }
+        requires entry { input.entry ≡ entry_in course.now.entries place }
+        requires consistent { IsConsistent (program_of command.job.style.now) command.job.earlier.now (course_world course.now) self.old }
         ensures command { IfOk result (λ s. s.command ≡ command.entry.site.now.command) }
         ensures input { IfOk result (λ s. s.input ≡ input) }
         ensures next { IfOk result (λ s. IsNext (program_of command.entry.job.style.now)
@@ -170,6 +173,8 @@ impl KeptSteps {
             earlier: job.earlier,
             command: site.command,
             input: &input,
+            place,
+            same: self.same.as_slice(),
         };
         let Done { outcome, cost } = next.take_over_or_carry_out(&mut self.reuse)?;
         let made = Step::of(site.command, input, outcome, cost)?;
@@ -211,7 +216,7 @@ impl KeptSteps {
             None => {
                 let input = cut_out(command.job.alloc, course, target, place)?;
                 let tag = tag_of(command.site.command, &input);
-                let step = self.make_step(command, input, course)?;
+                let step = self.make_step(command, place, input, course)?;
                 Ok(Next {
                     step,
                     tag,

@@ -3,13 +3,16 @@
 //! A step's name is its command and its entry's key. No two steps of a run have the same name, because a command takes at most
 //! one step for each key. So at most one earlier step can agree.
 
-ghost use Rattle.std.specs.Prelude.{◌≡◌, ◌+◌, ◌<◌, ◌≤◌, ◌^◌, ◌↔◌, All, Contains, Some, IsTrue, IfOk, IfSome, OnOk, MatchOption, length};
-ghost use Rattle.std.specs.Option.{ForSome};
+ghost use Rattle.std.specs.Prelude.{◌≡◌, ◌+◌, ◌<◌, ◌≤◌, ◌^◌, ◌↔◌, All, Contains, Some, IsTrue, IfOk, IfSome, OnOk, MatchOption, length, slice_get};
+ghost use Rattle.std.specs.Option.{ForSome, option_map};
 ghost use Rattle.bt_style.specs.Program.{program_of};
 ghost use Rattle.bt_style.specs.Reach.{is_among};
 ghost use Rattle.bt_machine.specs.Step.{step_in, outcome_of};
 ghost use Rattle.bt_machine.specs.AgreementLaws.{IsFootprint, IsNextOutcome, outcome_over};
+ghost use Rattle.bt_machine.specs.Agreement.{fixed};
 ghost use Rattle.bt_run.specs.Course.{key_in};
+ghost use Rattle.bt_run.specs.declared.course.Step.{Step as StepSeen};
+ghost use Rattle.bt_run.specs.inner.Marks.{HaveSameEntry};
 ghost use Rattle.bt_run.specs.Work.{IsStep};
 ghost use Rattle.bt_run.specs.inner.Marks.{tag_of};
 ghost use Rattle.bt_run.specs.inner.Names.{IsIndex, IsNamedAt, IsUnnamed, named_at};
@@ -20,7 +23,9 @@ use crate::index::Index;
 use crate::kept::Kept;
 use crate::mark::{Mark, key_or_none, tag_of};
 use crate::reuse::{KnownReach, Lookup, Reuse};
-use bt_machine::{Input, Outcome, activate, agreeing_inputs_have_one_step, agrees, left_over};
+use bt_machine::{
+    Input, Outcome, TwoInputs, activate, agreeing_inputs_have_one_step, agrees, left_over,
+};
 use bt_style::{Reach, Style, Target};
 use bt_text::{Sequence, Shared};
 use std::alloc::{AllocError, Global};
@@ -56,7 +61,7 @@ fn find_known(known: &[KnownReach], target: Target, function: Option<usize>) -> 
     ensures function { IfSome result (λ k. k.now.function ≡ function) }
 {
     'known: for one in known {
-        if one.target == target && is_same_number(one.function, function) {
+        if is_same_number(one.function, function) && one.target == target {
             return Some(one);
         }
     }
@@ -108,13 +113,16 @@ pub fn marked_at<'a>(earlier: &'a Kept, place: usize) -> Option<Marked<'a>>
     Some(Marked { step, mark })
 }
 
-/// A step that is looked for: its style, its command, its input, and what it can reach.
+/// A step that is looked for: its style, its command, its input, what it can reach, and its entry's place, with the places
+/// at which the entries are known to be the same.
 #[derive(Clone, Copy)]
 struct Sought<'a> {
     style: &'a Style,
     command: usize,
     input: &'a Input,
     reach: &'a Reach,
+    place: Option<usize>,
+    same: &'a [bool],
 }
 
 /// Whether the step at a place has the name of this one.
@@ -199,14 +207,36 @@ fn place_of(
     Ok(place)
 }
 
-/// The step at a place, if it is one of this command and its input agrees with this one in what is reached.
-fn like_at<'a>(earlier: &'a [Shared<Step>], place: usize, sought: Sought<'_>) -> Option<&'a Step>
-    ensures { MatchOption result (IsUnlikeAt sought.entry earlier.now place) (λ step. IsMet sought.entry earlier.now step.now) }
+/// Whether the step at a place is known to have this one's entry, but for its variables.
+#[tactic(auto, using(crate::proofs::MarkLemmas::same_marked))]
+fn has_same_entry(earlier: &Kept, place: usize, sought: Sought<'_>) -> bool
+    requires { HaveSameEntry earlier.now.entries sought.input.now sought.place sought.same.now }
+    ensures { IsTrue result → (s : StepSeen) → slice_get earlier.now.steps place ≡ Some s →
+        option_map fixed s.input.entry ≡ option_map fixed sought.entry.input.now.entry }
 {
-    let step: &Step = earlier.get(place)?;
-    if step.command == sought.command
-        && agrees(sought.style, &step.input, sought.input, sought.reach)
-    {
+    match marked_at(earlier, place) {
+        None => false,
+        Some(Marked { mark, .. }) => mark.is_same(sought.place, sought.same),
+    }
+}
+
+/// The step at a place, if it is one of this command and its input agrees with this one in what is reached.
+fn like_at<'a>(earlier: &'a Kept, place: usize, sought: Sought<'_>) -> Option<&'a Step>
+    requires { HaveSameEntry earlier.now.entries sought.input.now sought.place sought.same.now }
+    ensures { MatchOption result
+        (IsUnlikeAt sought.entry earlier.now.steps place) (λ step. IsMet sought.entry earlier.now.steps step.now) }
+{
+    let step: &Step = earlier.steps.as_slice().get(place)?;
+    if step.command != sought.command {
+        return None;
+    }
+    let same = has_same_entry(earlier, place, sought);
+    let inputs = TwoInputs {
+        old: &step.input,
+        new: sought.input,
+        same,
+    };
+    if agrees(sought.style, inputs, sought.reach) {
         return Some(step);
     }
     None
@@ -220,7 +250,8 @@ fn meet<'a>(
     sought: Sought<'_>,
     reuse: &mut Reuse,
 ) -> Result<Option<&'a Step>, AllocError>
-    requires { ForSome reuse.old.lookup.index (IsIndex earlier.now.steps) }
+    requires indexed { ForSome reuse.old.lookup.index (IsIndex earlier.now.steps) }
+    requires same { HaveSameEntry earlier.now.entries sought.input.now sought.place sought.same.now }
     ensures met { IfOk result (λ met. MatchOption met
         (AreUnlike sought.entry earlier.entry.now.steps) (λ step. IsMet sought.entry earlier.entry.now.steps step.now)) }
     ensures indexed { OnOk result (ForSome reuse.new.lookup.index (IsIndex earlier.entry.now.steps)) }
@@ -230,9 +261,8 @@ fn meet<'a>(
     match found {
         None => Ok(None),
         Some(place) => {
-            let steps = earlier.steps.as_slice();
-            reuse.next = place + 1;
-            Ok(like_at(steps, place, sought))
+            reuse.next = place.saturating_add(1);
+            Ok(like_at(earlier, place, sought))
         }
     }
 }
@@ -285,7 +315,12 @@ pub struct StepToTake<'a> {
     pub earlier: &'a Kept,
     pub command: usize,
     pub input: &'a Input,
+    /// The place of its entry. None if it has no entry, or nothing is known of it.
+    pub place: Option<usize>,
+    /// Whether the earlier run's entry at a place is the one there, but for its variables.
+    pub same: &'a [bool],
     ghost steps: { All (IsStep (program_of style.now)) earlier.now.steps },
+    ghost alike: { HaveSameEntry earlier.now.entries input.now place same.now },
 }
 
 impl StepToTake<'_> {
@@ -310,6 +345,8 @@ impl StepToTake<'_> {
             earlier,
             command,
             input,
+            place,
+            same,
         } = self;
         // This call does nothing; the proof needs its contract, a law of the machine.
         agreeing_inputs_have_one_step();
@@ -320,6 +357,8 @@ impl StepToTake<'_> {
             command,
             input,
             reach,
+            place,
+            same,
         };
         let met = meet(alloc, earlier, sought, reuse)?;
         match met {

@@ -1,6 +1,7 @@
 //! SORT: the entries in the order of their sort keys.
 
-ghost use Rattle.std.specs.Prelude.{◌≡◌, ◌<◌, All, length, map, IfOk};
+ghost use Rattle.std.specs.Prelude.{◌≡◌, ◌<◌, ◌-◌, ◌++◌, All, filter, length, map, nat_lt, IfOk};
+ghost use Rattle.std.specs.List.{range_with_len};
 ghost use Rattle.bt_run.specs.SortCommand.{key_at, sorted};
 ghost use Rattle.bt_run.specs.inner.Cases.{sort_key};
 ghost use Rattle.bt_run.specs.inner.Course.{IsArranged};
@@ -44,6 +45,24 @@ fn places_of(alloc: Global, keyed: &[(&[u8], usize)]) -> Result<Sequence<usize>,
         places.push(*place)?;
     }
     Ok(places)
+}
+
+/// The places of an order that are below `count`, and then those from `old` on.
+pub fn order_again(
+    alloc: Global,
+    order: &[usize],
+    old: usize,
+    count: usize,
+) -> Result<Vec<usize>, AllocError>
+    ensures { IfOk result (λ again. again.items
+        ≡ filter (λ n. nat_lt n count) order.now ++ range_with_len old (count - old)) }
+{
+    order
+        .iter()
+        .copied()
+        .filter(|place| *place < count)
+        .chain(old..count)
+        .collect(alloc)
 }
 
 /// The places of the entries in the order of their sort keys; those whose keys are equal stand in list order. The sort

@@ -214,6 +214,8 @@ impl Walk {
             earlier,
             command: old.command,
             input: &input,
+            place: None,
+            same: &[],
         };
         let Done { outcome, cost } = next.take_over_or_carry_out(&mut self.reuse)?;
         let made = Step::of(old.command, input, outcome, cost)?;

@@ -1,6 +1,6 @@
 //! Inputs of a step whose function reaches its entry's title, but not the note.
 
-use bt_machine::{Entry, Input, Variables, agrees};
+use bt_machine::{Entry, Input, TwoInputs, Variables, agrees};
 use bt_style::{Builtin, Reach, Style, Target, read_style};
 use bt_text::{Bytes, Held, Shared, SparseTexts, Values};
 use std::alloc::{AllocError, Global};
@@ -72,7 +72,12 @@ fn agree_in(alloc: Global, style: &Style, one: &str, other: &str) -> Result<bool
     let reach = reach(alloc, style)?;
     let one = input(alloc, one)?;
     let other = input(alloc, other)?;
-    Ok(agrees(style, &one, &other, &reach))
+    let inputs = TwoInputs {
+        old: &one,
+        new: &other,
+        same: false,
+    };
+    Ok(agrees(style, inputs, &reach))
 }
 
 /// Whether the steps of two entries agree on all that their function can reach.

@@ -1,11 +1,8 @@
 -- What is known of entries without comparing them: which of them an earlier run has too, but for their variables.
 use Rattle.std.specs.Prelude.{◌≡◌, ℕ, Bool, true, List, Option, Some, None, slice_get, slice_index_or}
 use Rattle.bt_actions.specs.declared.entry.Entry.{Entry}
-use Rattle.bt_actions.specs.World.{no_variables, no_entry}
-
--- what no step changes of an entry
-abbrev pub fixed : Entry → Entry
-fixed e = record e { variables = no_variables }
+use Rattle.bt_actions.specs.World.{no_entry}
+pub use Rattle.bt_machine.specs.Agreement.{fixed}
 
 -- the same of the entry at a place
 abbrev pub fixed_at : List Entry → ℕ → Entry

@@ -1,7 +1,8 @@
 -- What is noted of steps: tags, by which a scan passes over steps of other names; and what is known of their entries.
-use Rattle.std.specs.Prelude.{◌≡◌, ◌+◌, ◌*◌, ◌%◌, ℕ, List, [], ◌∷◌, Option, Some, None, length, slice_get}
+use Rattle.std.specs.Prelude.{◌≡◌, ◌+◌, ◌*◌, ◌%◌, ℕ, Bool, true, List, [], ◌∷◌, Option, Some, None, length, slice_get}
 use Rattle.std.specs.Option.{ForSome, option_map}
 use Rattle.bt_actions.specs.declared.entry.Entry.{Entry}
+use Rattle.bt_machine.specs.declared.input.Input.{Input}
 use Rattle.bt_run.specs.declared.course.Step.{Step}
 use Rattle.bt_run.specs.declared.mark.Mark.{Mark}
 use Rattle.bt_run.specs.Course.{key_in}
@@ -29,6 +30,11 @@ bare_mark s = record { place = None; tag = step_tag s }
 pub record IsMark (entries : List Entry) (s : Step) (m : Mark) : Type 0 where
   pub placed : ForSome m.place (λ n. option_map fixed s.input.entry ≡ Some (fixed_at entries n))
   pub tagged : m.tag ≡ step_tag s
+
+-- If an input's entry stands at a place that is marked as the same, the earlier one there is the same, but for its variables.
+abbrev pub HaveSameEntry : List Entry → Input → Option ℕ → List Bool → Type 0
+HaveSameEntry entries i place same =
+    (n : ℕ) → place ≡ Some n → slice_get same n ≡ Some true → option_map fixed i.entry ≡ Some (fixed_at entries n)
 
 -- the marks of steps, one for each
 pub record AreMarked (entries : List Entry) (steps : List Step) (marks : List Mark) : Type 0 where

@@ -4,7 +4,7 @@
 use crate::inputs::{input, reach, style};
 use crate::refused::attempt::{Part, Verdict};
 use crate::refused::refusing::is_refusing;
-use bt_machine::{Input, Meter, agrees};
+use bt_machine::{Input, Meter, TwoInputs, agrees};
 use bt_names::{FormatFault, NameFault, count, format, parts};
 use bt_style::{Reach, Style};
 use bt_text::{
@@ -106,7 +106,17 @@ fn is_full_line_right(alloc: Global, part: Part) -> Result<bool, AllocError> {
 
 /// Whether an input agrees with itself, and not with another one, in everything that a step reaches.
 fn agrees_alone(style: &Style, one: &Input, other: &Input, reach: &Reach) -> bool {
-    agrees(style, one, one, reach) && !agrees(style, one, other, reach)
+    let itself = TwoInputs {
+        old: one,
+        new: one,
+        same: false,
+    };
+    let apart = TwoInputs {
+        old: one,
+        new: other,
+        same: false,
+    };
+    agrees(style, itself, reach) && !agrees(style, apart, reach)
 }
 
 /// Whether two inputs that differ only in their keys don't agree in everything that a step of this style reaches.

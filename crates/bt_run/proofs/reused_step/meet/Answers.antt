@@ -1,7 +1,3 @@
-use Rattle.std.specs.Prelude.{MatchOption}
-use Rattle.std.proofs.Common.{List, subst}
-use Rattle.bt_run.specs.declared.course.Step.{Step}
-use Rattle.bt_run.specs.inner.Work.{IsMet, IsUnlikeAt}
 use Rattle.bt_run.proofs.StepNameLemmas.{met_none, met_some, named_met, unnamed_none}
 use Rattle.bt_run.proofs.reused_step.meet.Goals as goal
 
@@ -15,4 +11,4 @@ returns-in-Some-clause-met c =
     let earlier = c.args.earlier.now in
     let place = c.in-Some.place in
     named_met _ c.like_at.result sought earlier.steps place earlier.named (met_some _ _ c.in_ok-found.found place c.in-Some.is c.in_ok-found.ensures.place)
-    (subst (λ (ss : List Step). MatchOption c.like_at.result (IsUnlikeAt sought ss place) (λ step. IsMet sought ss step.now)) c.as_slice-steps.ensures c.like_at.ensures)
+    c.like_at.ensures

@@ -6,7 +6,7 @@ use Rattle.bt_machine.proofs.ReuseLemmas.{earlier_rest}
 use Rattle.bt_run.specs.declared.reuse.Reuse.{Reuse}
 use Rattle.bt_run.specs.Work.{IsStep}
 use Rattle.bt_run.proofs.StepNameLemmas.{met_some, met_none}
-use Rattle.bt_run.proofs.WorkLemmas.{true_step, own_outcome, taken_cost, taken_counted, ran_counted}
+use Rattle.bt_run.proofs.WorkLemmas.{step_of, own_outcome, taken_cost, taken_counted, ran_counted}
 use Rattle.bt_run.proofs.reused_step.StepToTake.take_over_or_carry_out.Goals as goal
 
 pub take_over-requires : goal.take_over-requires
@@ -14,7 +14,7 @@ take_over-requires c =
     let p = program_of c.args.self.style.now in
     let met = met_some _ _ c.in_ok-met.met c.in-Some.step c.in-Some.is c.in_ok-met.ensures.met in
     let step = c.in-Some.step.now in
-    let own : IsStep p step = true_step p c.args.self.earlier.now.steps step c.args.self.steps met.0 in
+    let own : IsStep p step = step_of p c.args.self.earlier.now.steps step c.args.self.steps met.0 in
     let reached = subst (λ (r : Reach). IsFootprint p c.args.self.input.now r.targets) (sym c.deref-reach.ensures) c.in_ok-known.ensures.reach in
     earlier_rest p c.deref-reach.result.now.targets step.input c.args.self.input.now step.outcome (own_outcome p step own) reached met.1.agree
 
@@ -22,7 +22,7 @@ pub returns-in-Some-clause-outcome : goal.returns-in-Some-clause-outcome
 returns-in-Some-clause-outcome c =
     let p = program_of c.args.self.style.now in
     let met = met_some _ _ c.in_ok-met.met c.in-Some.step c.in-Some.is c.in_ok-met.ensures.met in
-    let own : IsStep p c.in-Some.step.now = true_step p c.args.self.earlier.now.steps c.in-Some.step.now c.args.self.steps met.0 in
+    let own : IsStep p c.in-Some.step.now = step_of p c.args.self.earlier.now.steps c.in-Some.step.now c.args.self.steps met.0 in
     let reached = subst (λ (r : Reach). IsFootprint p c.args.self.input.now r.targets) (sym c.deref-reach.ensures) c.in_ok-known.ensures.reach in
     c.in_ok-taken-in-Some.ensures.outcome p (own_outcome p c.in-Some.step.now own) reached met.1.agree
 
@@ -31,7 +31,7 @@ returns-in-Some-clause-cost c =
     let p = program_of c.args.self.style.now in
     let met = met_some _ _ c.in_ok-met.met c.in-Some.step c.in-Some.is c.in_ok-met.ensures.met in
     let step = c.in-Some.step.now in
-    let own : IsStep p step = true_step p c.args.self.earlier.now.steps step c.args.self.steps met.0 in
+    let own : IsStep p step = step_of p c.args.self.earlier.now.steps step c.args.self.steps met.0 in
     let reached = subst (λ (r : Reach). IsFootprint p c.args.self.input.now r.targets) (sym c.deref-reach.ensures) c.in_ok-known.ensures.reach in
     taken_cost p c.deref-reach.result.now.targets c.args.self.input.now step c.in_ok-taken-in-Some.taken.cost (c.agreeing_inputs_have_one_step.ensures p) reached own met.1.agree c.in_ok-taken-in-Some.ensures.cost
 
