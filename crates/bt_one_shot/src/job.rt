@@ -116,7 +116,7 @@ pub fn one_shot<F: Folder, O: Sink, E: Sink>(
     let bbl = Bytes::of(alloc, &[root, b".bbl"])?;
     let blg = Bytes::of(alloc, &[root, b".blg"])?;
     let failures_before = err.failures();
-    let snapshot = load(alloc, root, options.min, folder, err, failures_before)?;
+    let snapshot = load(alloc, options, folder, err, failures_before)?;
     let outputs = Outputs {
         snapshot: &snapshot,
         bbl: bbl.as_slice(),

@@ -9,6 +9,7 @@ ghost use Rattle.bt_one_shot.specs.inner.Progress.{TakesIn, LooksUpName, Goes, L
 
 use crate::folder::{Folder, Found};
 use crate::met_names::NamesMet;
+use crate::options::Options;
 use bibtex::{Draft, Edit, Refusal, Snapshot, code_of};
 use bt_streams::{Sink, say};
 use bt_text::Bytes;
@@ -81,7 +82,6 @@ fn look_up<F: Folder, E: Sink>(
 /// one has.
 #[tactic(auto, using(crate::proofs::LoadLemmas::goes_none))]
 fn look_up_wanted<F: Folder, E: Sink>(
-    alloc: Global,
     draft: &mut Draft,
     met: &mut NamesMet,
     folder: &mut F,
@@ -98,7 +98,7 @@ fn look_up_wanted<F: Folder, E: Sink>(
     'wanted: for name in wanted.as_slice() {
         let name = name.as_slice();
         if !met.has(name) {
-            met.put(alloc, name)?;
+            met.put(name)?;
             if look_up(draft, folder, err, failures_before, name) {
                 return Ok(true);
             }
@@ -112,7 +112,6 @@ fn look_up_wanted<F: Folder, E: Sink>(
 /// files that were looked up before.
 #[tactic(auto, using(crate::proofs::LoadLemmas::goes_none, crate::proofs::LoadLemmas::goes_more))]
 fn load_all<F: Folder, E: Sink>(
-    alloc: Global,
     draft: &mut Draft,
     met: &mut NamesMet,
     folder: &mut F,
@@ -124,33 +123,33 @@ fn load_all<F: Folder, E: Sink>(
         (E.seen err.old) (E.seen err.new) }
     ensures end { OnOk result (next draft.new met.new ≡ None) }
 {
-    'rounds: while look_up_wanted(alloc, draft, met, folder, err, failures_before)? {}
+    'rounds: while look_up_wanted(draft, met, folder, err, failures_before)? {}
     Ok(())
 }
 
-/// What a job means with the files that it wants, each looked up once, in the order in which its run looks for them.
-/// A file that is refused is reported on `err`, and counts as missing. The only error is out of memory.
+/// What the job of these options means with the files that it wants, each looked up once, in the order in which its run
+/// looks for them. A file that is refused is reported on `err`, and counts as missing. The only error is out of memory.
 pub fn load<F: Folder, E: Sink>(
     alloc: Global,
-    root: &[u8],
-    min: u32,
+    options: &Options,
     folder: &mut F,
     err: &mut E,
     failures_before: u64,
 ) -> Result<Snapshot, AllocError>
-    requires root { is_root_name root.now ≡ true }
+    requires root { is_root_name options.now.root ≡ true }
     requires failures { failures_before < 2 ^ 64 - 1 }
-    ensures ok { IfOk result (λ snapshot. LoadsAll failures_before root.now min snapshot (F.seen folder.old)
+    ensures ok { IfOk result (λ snapshot. LoadsAll failures_before options.now.root options.now.min snapshot
+        (F.seen folder.old) (F.seen folder.new)
+        (E.seen err.old) (E.seen err.new)) }
+    ensures err { OnErr result (LoadsSome failures_before options.now.root options.now.min (F.seen folder.old)
         (F.seen folder.new)
         (E.seen err.old) (E.seen err.new)) }
-    ensures err { OnErr result (LoadsSome failures_before root.now min (F.seen folder.old) (F.seen folder.new)
-        (E.seen err.old) (E.seen err.new)) }
 {
-    let Ok(mut draft) = Draft::new(alloc, root, min) else {
+    let Ok(mut draft) = Draft::new(alloc, options.root.as_slice(), options.min) else {
         return Err(AllocError);
     };
     let mut met = NamesMet::new(alloc);
-    load_all(alloc, &mut draft, &mut met, folder, err, failures_before)?;
+    load_all(&mut draft, &mut met, folder, err, failures_before)?;
     let snapshot = Snapshot::of(draft)?;
     Ok(snapshot)
 }

@@ -10,6 +10,7 @@ use std::marker::Model;
 /// Names, each once, in the order in which they were noted. Contracts see the list of them.
 #[derive(Drop)]
 pub struct NamesMet {
+    alloc: Global,
     names: IndexSet<Vec<u8>>,
 }
 
@@ -26,6 +27,7 @@ impl NamesMet {
         ensures { result ≡ [] }
     {
         NamesMet {
+            alloc,
             names: IndexSet::new(alloc),
         }
     }
@@ -38,12 +40,12 @@ impl NamesMet {
     }
 
     /// Appends a new name. After out of memory the names are as before.
-    pub fn put(&mut self, alloc: Global, name: &[u8]) -> Result<(), AllocError>
+    pub fn put(&mut self, name: &[u8]) -> Result<(), AllocError>
         requires { list_any (bytes_eq name.now) self.old ≡ false }
         ensures ok { OnOk result (self.new ≡ self.old ++ name.now ∷ []) }
         ensures err { OnErr result (self.new ≡ self.old) }
     {
-        let name = Vec::from_slice(alloc, name)?;
+        let name = Vec::from_slice(self.alloc, name)?;
         let _ = self.names.insert(name)?;
         Ok(())
     }

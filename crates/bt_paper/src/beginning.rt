@@ -43,24 +43,6 @@ fn write(draft: &mut AuthorDraft, name: &[u8], text: &[u8]) -> Result<bool, Allo
     Ok(true)
 }
 
-/// Gives a draft the file of a name, if it is found. Says whether the draft took it.
-fn add<L: Library>(
-    alloc: Global,
-    library: &L,
-    folders: &[Folder],
-    draft: &mut AuthorDraft,
-    known: &mut Sequence<Known>,
-    name: &[u8],
-) -> Result<bool, AllocError>
-    ensures { KeepsJob draft.old draft.new }
-{
-    let Some(Found { file, text }) = find(alloc, library, folders, name)? else {
-        return Ok(false);
-    };
-    note(known, file)?;
-    write(draft, name, text.as_slice())
-}
-
 /// Gives a draft the files that it looks for, as far as they are found. Says whether it took one.
 fn fill<L: Library>(
     alloc: Global,
@@ -74,8 +56,12 @@ fn fill<L: Library>(
     let wanted = draft.wanted()?;
     let mut grown = false;
     'names: for name in wanted.as_slice() {
-        let taken = add(alloc, library, folders, draft, known, name.as_slice())?;
-        grown = grown || taken;
+        let name = name.as_slice();
+        if let Some(Found { file, text }) = find(alloc, library, folders, name)? {
+            note(known, file)?;
+            let taken = write(draft, name, text.as_slice())?;
+            grown = grown || taken;
+        }
     }
     Ok(grown)
 }

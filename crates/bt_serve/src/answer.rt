@@ -56,31 +56,6 @@ fn room(alloc: Global, count: usize) -> Option<Vec<u8>>
     vec![in alloc; 0; count].ok()
 }
 
-/// Answers an edit whose bytes are next in the source. It isn't the last command.
-fn answer_edit<S: Source, K: Sink>(
-    alloc: Global,
-    source: &mut S,
-    sink: &mut K,
-    session: &mut Session,
-    bare: Edit<'_>,
-    count: usize,
-) -> Result<bool, ServeFault>
-    requires reads { (S.seen source.old).failures < 2 ^ 64 - 1 }
-    requires writes { (K.seen sink.old).failures < 2 ^ 64 - 1 }
-    ensures replies { Replies (edit (edit_of bare.entry) count) (S.seen source.old).rest (S.seen source.new).rest
-        (K.seen sink.old).contents (K.seen sink.new).contents session.old session.new result }
-    ensures lowers { (S.seen source.new).reads_left ≤ (S.seen source.old).reads_left }
-    ensures failures { CountsFailures (S.seen source.old).failures (S.seen source.new).failures
-        (K.seen sink.old).failures (K.seen sink.new).failures result }
-    ensures flushed { HandsOn (K.seen sink.old).is_flushed (K.seen sink.new).is_flushed result }
-{
-    let taken = take_edit(alloc, source, session, bare, count)?;
-    match say_taken(sink, taken) {
-        Ok(()) => Ok(false),
-        Err(_) => Err(ServeFault::WriteFailed),
-    }
-}
-
 /// Answers a request, whose bytes are next in the source, and says whether it was the last one.
 pub fn answer_request<S: Source, K: Sink>(
     alloc: Global,
@@ -99,7 +74,13 @@ pub fn answer_request<S: Source, K: Sink>(
     ensures flushed { HandsOn (K.seen sink.old).is_flushed (K.seen sink.new).is_flushed result }
 {
     match request {
-        Request::Edit(edit, count) => answer_edit(alloc, source, sink, session, edit, count),
+        Request::Edit(edit, count) => {
+            let taken = take_edit(alloc, source, session, edit, count)?;
+            match say_taken(sink, taken) {
+                Ok(()) => Ok(false),
+                Err(_) => Err(ServeFault::WriteFailed),
+            }
+        }
         _ => match say_shown(sink, session, request) {
             Ok(last) => Ok(last),
             Err(_) => Err(ServeFault::WriteFailed),

@@ -113,22 +113,29 @@ fn add_field<'x>(text: &mut Bytes, name: &'x [u8], value: &'x [u8]) -> Result<()
     text.append_all(&[b", ", name, b" = {", value, b"}"])
 }
 
-/// An entry of this type and key that meets what is known of the fault's entries.
-pub fn entry<'x>(
+/// The fields of an entry that meets what is known of the fault's entries, as they follow its key.
+pub fn fields(
     alloc: Global,
     style: &Style,
     fault: &Fault,
     filling: Filling,
-    entry_type: &'x [u8],
-    key: &'x [u8],
 ) -> Result<Bytes, AllocError> {
-    let mut text = Bytes::of(alloc, &[b"@", entry_type, b"{", key])?;
+    let mut text = Bytes::new(alloc);
     for (field, name) in style.fields.as_slice().iter().enumerate() {
         let name = name.as_slice();
         if let Some(value) = filling.field(state_of(fault, field), field, name) {
             add_field(&mut text, name, value)?;
         }
     }
-    text.append(b"}")?;
     Ok(text)
+}
+
+/// An entry of this type and key, with these fields.
+pub fn entry<'x>(
+    alloc: Global,
+    entry_type: &'x [u8],
+    key: &'x [u8],
+    fields: &'x [u8],
+) -> Result<Bytes, AllocError> {
+    Bytes::of(alloc, &[b"@", entry_type, b"{", key, fields, b"}"])
 }

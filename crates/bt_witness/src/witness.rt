@@ -2,7 +2,7 @@
 //! run gives the message.
 
 use crate::cost::{MOST_COST, PROBES, cost};
-use crate::filling::{Filling, Rest, entry};
+use crate::filling::{Filling, Rest, entry, fields};
 use bt_check::{Fault, FaultKind};
 use bt_front::run;
 use bt_job::File;
@@ -186,15 +186,10 @@ impl<'a> Hunt<'a> {
             return Ok(());
         }
         let key = key_of(self.alloc, self.candidates.len())?;
-        let written = entry(
-            self.alloc,
-            self.style,
-            fault,
-            filling,
-            entry_type,
-            key.as_slice(),
-        )?;
-        let shown = entry(self.alloc, self.style, fault, filling, entry_type, b"a")?;
+        let fields = fields(self.alloc, self.style, fault, filling)?;
+        let fields = fields.as_slice();
+        let written = entry(self.alloc, entry_type, key.as_slice(), fields)?;
+        let shown = entry(self.alloc, entry_type, b"a", fields)?;
         self.candidates.push(Candidate {
             fault: place,
             key,
