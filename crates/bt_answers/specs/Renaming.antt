@@ -143,7 +143,7 @@ renamed_if_free files docs c wanted old new =
     else (if not (are_renamed files docs c wanted old new) then Err InexactRename
     else Ok (rename_edit files docs c wanted old new))))
 
--- what is said of files and of a renaming's parts, for a renaming
+-- a definition over files and the parts of a renaming, applied to a renaming
 abbrev pub of_renaming : {A : Type 0} → (List (List ℕ × List ℕ) → List Document → Counting → Wanted → List ℕ → List ℕ → A) →
     List (List ℕ × List ℕ) → Renaming → A
 of_renaming f files r = f files r.editor.documents.now r.editor.counting r.wanted r.old.now r.new.now

@@ -225,7 +225,8 @@ impl UnderNames {
     }
 }
 
-/// Puts the author's names back. The answers of a job that needs no other names have them.
+/// Puts the author's names back into the answers. If the job needed no other names, they are there already. The only error
+/// is out of memory.
 pub fn put_names_back(alloc: Global, names: &Names, answers: &mut Answers) -> Result<(), AllocError>
     requires { IsLogged (meaning_of answers.old) }
     ensures { OnOk result (meaning_of answers.new ≡ told_under names.now (meaning_of answers.old)) }

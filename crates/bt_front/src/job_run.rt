@@ -50,8 +50,9 @@ impl JobRun {
         JobRun::after(alloc, files, root, min, &mut Kept::nothing(alloc))
     }
 
-    /// The same run after one that left `kept`: a step that nothing new can reach isn't run, and a text that was read isn't
-    /// read. What READ found is taken out of `kept`; its steps stay.
+    /// The run of these files after one that left `kept`: a step that nothing new can reach isn't run, and a text that was
+    /// read isn't re-read. What READ found is taken out of `kept`; its style's text and its steps stay, even after an error. The
+    /// only error is out of memory.
     pub fn after(
         alloc: Global,
         files: &[File],
@@ -73,8 +74,8 @@ impl JobRun {
         })
     }
 
-    /// Becomes the run of the files after a change that leaves the names of the job, and says whether it did. If it didn't,
-    /// or memory ran out, it is still the run of the files before: use `after`.
+    /// Tries to make this the run of the files after a change that leaves the job's names, and returns whether it did. The only
+    /// error is out of memory. After false or an error, this is still the run of the files before: use `after`.
     pub fn follow(&mut self, change: Change<'_>) -> Result<bool, AllocError>
         requires run { IsRunOfJob change.was.now change.root.now change.min self.old }
         requires names { names_of change.files.now change.root.now ≡ names_of change.was.now change.root.now }

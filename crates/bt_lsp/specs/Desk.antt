@@ -92,15 +92,15 @@ IsOutcome m query Ready (OfPaper q) d outcome e = (outcome ≡ query (OfPaper q)
 IsOutcome m query Ready (OfRun q) d outcome e = (outcome ≡ query (OfRun q)) × (e ≡ d)
 IsOutcome m query Ready Unknown d outcome e = (outcome ≡ query Unknown) × (e ≡ d)
 
--- The news of a desk that complains so: what comes first, the complaint unless it was said before, the diagnostics of each open
--- document, what is announced, and that the first run has ended, if it was said to begin.
-abbrev pub news_with : {P : Type 0} → (P → Shown) → List ℕ → Bool → List ℕ → List Data → Server P → List Data
-news_with shown words running said first e = with_end running (news shown e (with_complaints said words first))
+-- The news of a desk that was `d` and complains so: what comes first, the complaint unless it was said before, the diagnostics
+-- of each open document, what is announced, and that the first run has ended, if it was said to begin.
+abbrev pub news_with : {P : Type 0} → (P → Shown) → Server P → List ℕ → List Data → Server P → List Data
+news_with shown d words first e = with_end d.in_progress (news shown e (with_complaints d.said words first))
 
 -- the news of a desk: warnings first, and it complains of errors about files for which no document has a place
-abbrev pub news_of : {P : Type 0} → (P → Shown) → Bool → Bool → List ℕ → Bool → Notice → Data → Server P → List Data
-news_of shown lost running said behind notice m e =
-    news_with shown (complaints (shown e.paper) e.documents) running said (warnings lost behind ++ cleared notice m) e
+abbrev pub news_of : {P : Type 0} → (P → Shown) → Server P → Bool → Notice → Data → Server P → List Data
+news_of shown d behind notice m e =
+    news_with shown d (complaints (shown e.paper) e.documents) (warnings d.lost behind ++ cleared notice m) e
 
 -- the desk before, with what the desk after says of what was told and found
 abbrev pub with_told : {P : Type 0} → Server P → Server P → Server P
@@ -118,7 +118,7 @@ with_told d e = record d {
 -- what is announced. If memory runs out, it is told nothing. The desk knows whether it owes news, and of what it complained.
 abbrev pub Tells : {P : Type 0} → (P → Shown) → Server P → Bool → Notice → Data → List Data → Server P → Type 0
 Tells shown d behind notice m told e =
-    ((told ≡ news_of shown d.lost d.in_progress d.said behind notice m e) × (e.lost ≡ false) × (e.in_progress ≡ false) ×
+    ((told ≡ news_of shown d behind notice m e) × (e.lost ≡ false) × (e.in_progress ≡ false) ×
     (e.said ≡ complaints (shown e.paper) e.documents) × (e.pending ≡ behind)) ⊎
     ((told ≡ []) × (e.lost ≡ d.lost) × (e.in_progress ≡ d.in_progress) × (e.said ≡ d.said) × (e.pending ≡ true))
 

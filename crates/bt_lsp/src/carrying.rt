@@ -121,8 +121,8 @@ fn all_news<P: Paper>(
     complaints: &[u8],
     first: Vec<Value>,
 ) -> Result<Vec<Value>, AllocError>
-    ensures { IfOk result (λ told. map view told.items ≡ news_with P.shown complaints.now server.now.in_progress
-        server.now.said (map view first.items) server.now) }
+    ensures { IfOk result (λ told. map view told.items ≡
+        news_with P.shown server.now complaints.now (map view first.items) server.now) }
 {
     let first = with_complaints(alloc, server.said.as_slice(), complaints, first)?;
     let told = news(alloc, server, first)?;
@@ -136,8 +136,8 @@ fn news_and_complaints<P: Paper>(
     behind: bool,
     notification: &Notification<'_>,
 ) -> Result<(Vec<Value>, Bytes), AllocError>
-    ensures told { IfOk result (λ r. map view r.0.items ≡ news_of P.shown server.now.lost server.now.in_progress
-        server.now.said behind notification.now.notice (view notification.now.message.now) server.now) }
+    ensures told { IfOk result (λ r. map view r.0.items ≡
+        news_of P.shown server.now behind notification.now.notice (view notification.now.message.now) server.now) }
     ensures said { IfOk result (λ r. r.1 ≡ complaints (P.shown server.now.paper) server.now.documents) }
 {
     let said = complaints(alloc, &server.paper, server.documents.as_slice())?;

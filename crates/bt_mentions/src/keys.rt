@@ -13,7 +13,7 @@ use bt_text::{Sequence, eq_ignore_ascii_case, is_white, white_run};
 use memchr::memchr;
 use std::alloc::{AllocError, Global};
 
-/// The most bytes of a key that are looked at, so that a text takes the same time for each of its bytes.
+/// A key is cut after this many bytes, so that the search takes linear time.
 const KEY_BYTES: usize = 250;
 
 fn is_type_byte(byte: u8) -> bool

@@ -107,7 +107,8 @@ impl AuthorSession {
         self.go_to(texts)
     }
 
-    /// Takes note that the file of this name gets a text. Says whether the names stay that the files have and give.
+    /// Hands the splice that gives a file this text to what the job keeps. Returns true only if the names that the files have
+    /// and give stay the same.
     fn note(&mut self, name: &[u8], text: &Shared<Bytes>) -> Result<bool, AllocError>
         ensures same { self.new ≡ self.old }
         ensures names { IfOk result (λ stay. IsTrue stay →

@@ -4,8 +4,7 @@ use crate::Done;
 use crate::answer::{Answer, Spelled, put};
 use crate::words::Words;
 use bt_names::{
-    FormatFault, NameFault, Parts, SoundPatterns, Token, Written, count, format, parts,
-    push_formatted,
+    FormatFault, ListedName, NameFault, Parts, SoundPatterns, Token, Written, count, format, parts,
 };
 use std::alloc::AllocError;
 
@@ -49,19 +48,12 @@ fn push_format_answer(words: Words<'_>, out: &mut Answer, names: &[u8]) -> Done 
 }
 
 fn push_within_answer(words: Words<'_>, out: &mut Answer, names: &[u8]) -> Done {
-    let (alloc, limit) = (words.alloc, words.count(4));
+    let number = words.number(2);
+    let name = ListedName { names, number };
     let pattern = words.text(3)?;
-    let known = SoundPatterns::none(alloc);
-    let mut page = Vec::new(alloc);
-    match push_formatted(
-        alloc,
-        &known,
-        &mut page,
-        names,
-        words.number(2),
-        &pattern,
-        limit,
-    ) {
+    let known = SoundPatterns::none(words.alloc);
+    let mut page = Vec::new(words.alloc);
+    match name.push_formatted(&known, &mut page, &pattern, words.count(4)) {
         Ok(Written::Whole) => put!(out; page.as_slice()),
         Ok(Written::Longer) => put!(out; "longer"),
         Err(fault) => push_fault(out, fault)?,
