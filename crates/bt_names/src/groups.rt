@@ -38,6 +38,16 @@ fn initial(text: &[u8]) -> &[u8]
     &[]
 }
 
+/// Appends a text. Most of the texts around a part are empty.
+fn push_text(out: &mut Vec<u8>, text: &[u8]) -> Result<(), AllocError>
+    ensures { OnOk result (out.new.items ≡ out.old.items ++ text.now) }
+{
+    if text.is_empty() {
+        return Ok(());
+    }
+    out.extend_from_slice(text)
+}
+
 /// The bytes of a token, whole or its initial.
 fn spelling<'a>(is_whole: bool, token: &LentToken<'a>) -> &'a [u8]
     ensures { result.now ≡ (spell is_whole token.now).text }
@@ -171,7 +181,7 @@ fn push_by_text(
 {
     let mut rest = tokens;
     'walk: while let [token, behind @ ..] = rest {
-        out.extend_from_slice(own)?;
+        push_text(out, own)?;
         out.extend_from_slice(spelling(is_whole, token))?;
         rest = behind;
     }
@@ -205,10 +215,10 @@ pub fn push_part(out: &mut Vec<u8>, parts: &LentParts, part: Part<'_>) -> Result
 {
     if let [first, others @ ..] = parts.named_by(part.letter) {
         let start = out.len();
-        out.extend_from_slice(part.before)?;
+        push_text(out, part.before)?;
         out.extend_from_slice(spelling(part.is_whole, first))?;
         push_others(out, start, part, others)?;
-        out.extend_from_slice(part.behind)?;
+        push_text(out, part.behind)?;
         finish(out, start);
     }
     Ok(())

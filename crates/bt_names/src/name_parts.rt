@@ -125,7 +125,8 @@ fn with_commas<'t, 'a>(
 /// The tokens of a name, one section after another. Contracts see the parts of the name.
 #[derive(Drop)]
 pub struct Cut<'a> {
-    has_comma: bool,
+    /// How many commas part the sections.
+    commas: usize,
     tokens: Vec<LentToken<'a>>,
     /// How many tokens stand before the first comma.
     front: usize,
@@ -134,21 +135,21 @@ pub struct Cut<'a> {
 }
 
 impl<'a> Model for Cut<'a> {
-    ghost use Rattle.std.specs.Prelude.{◌≤◌, if◌then◌else◌, length, take, drop, slice_range};
+    ghost use Rattle.std.specs.Prelude.{◌≤◌, ◌==◌, if◌then◌else◌, length, take, drop, slice_range};
     ghost use Rattle.bt_names.specs.declared.tokens.Parts.{Parts};
     ghost use Rattle.bt_names.specs.NameParts.{with_commas, without_comma};
 
     ghost Value = { Parts };
 
-    ghost view = { λ c. if c.has_comma
-        then with_commas (take c.front c.tokens.items) (slice_range c.tokens.items c.front c.others) (drop c.others c.tokens.items)
-        else without_comma c.tokens.items };
+    ghost view = { λ c. if c.commas == 0
+        then without_comma c.tokens.items
+        else with_commas (take c.front c.tokens.items) (slice_range c.tokens.items c.front c.others) (drop c.others c.tokens.items) };
 
     ghost invariant = { λ c. (c.front ≤ c.others) × (c.others ≤ length c.tokens.items) };
 }
 
 impl<'a> Cut<'a> {
-    ghost use Rattle.std.specs.Prelude.{◌≡◌, ◌≤◌, length, take, drop, slice_range};
+    ghost use Rattle.std.specs.Prelude.{◌≡◌, ◌<◌, ◌≤◌, length, take, drop, slice_range};
     ghost use Rattle.bt_names.specs.NameParts.{with_commas, without_comma};
 
     /// A name without a comma.
@@ -156,7 +157,7 @@ impl<'a> Cut<'a> {
         ensures { result ≡ without_comma tokens.entry.items }
     {
         Cut {
-            has_comma: false,
+            commas: 0,
             tokens,
             front: 0,
             others: 0,
@@ -164,14 +165,15 @@ impl<'a> Cut<'a> {
     }
 
     /// A name with commas.
-    fn at(tokens: Vec<LentToken<'a>>, front: usize, others: usize) -> Cut<'a>
+    fn at(commas: usize, tokens: Vec<LentToken<'a>>, front: usize, others: usize) -> Cut<'a>
+        requires some { 0 < commas }
         requires first { front ≤ others }
         requires second { others ≤ length tokens.items }
         ensures { result ≡ with_commas (take front tokens.entry.items) (slice_range tokens.entry.items front others)
             (drop others tokens.entry.items) }
     {
         Cut {
-            has_comma: true,
+            commas,
             tokens,
             front,
             others,
@@ -182,7 +184,7 @@ impl<'a> Cut<'a> {
     pub fn parts(&self) -> LentParts<'_, 'a>
         ensures { result ≡ self.now }
     {
-        if self.has_comma {
+        if self.commas > 0 {
             with_commas(
                 &self.tokens[..self.front],
                 &self.tokens[self.front..self.others],
@@ -210,11 +212,11 @@ pub fn cut_name<'a>(alloc: Global, name: &'a Name) -> Result<Cut<'a>, AllocError
             let front = tokens.len();
             let rest = push_section(&mut tokens, second)?;
             match after_comma(rest) {
-                None => Ok(Cut::at(tokens, front, front)),
+                None => Ok(Cut::at(1, tokens, front, front)),
                 Some(third) => {
                     let others = tokens.len();
                     push_section(&mut tokens, third)?;
-                    Ok(Cut::at(tokens, front, others))
+                    Ok(Cut::at(2, tokens, front, others))
                 }
             }
         }

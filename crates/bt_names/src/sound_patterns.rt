@@ -37,19 +37,24 @@ impl Model for SoundPatterns {
 }
 
 impl SoundPatterns {
-    ghost use Rattle.std.specs.Prelude.{◌≡◌, IfErr, IfOk, IfSome, Some};
+    ghost use Rattle.std.specs.Prelude.{◌≡◌, [], IfErr, IfOk, IfSome, OnErr, Some};
     ghost use Rattle.bt_names.specs.Patterns.{pattern_fault};
     ghost use Rattle.bt_names.specs.inner.Rest.{IsCut, IsRestOf};
 
     /// No pattern. It takes no memory.
-    pub fn none(alloc: Global) -> SoundPatterns {
+    pub fn none(alloc: Global) -> SoundPatterns
+        ensures { result ≡ [] }
+    {
         SoundPatterns {
             patterns: Vec::new(alloc),
         }
     }
 
-    /// Adds a text if it is a pattern with a group, has no fault, and few are known.
-    pub fn add(&mut self, alloc: Global, text: &[u8]) -> Result<(), AllocError> {
+    /// Adds a text if it is a pattern with a group, has no fault, and few are known. The one error is out of memory; the
+    /// patterns are then as before.
+    pub fn add(&mut self, alloc: Global, text: &[u8]) -> Result<(), AllocError>
+        ensures { OnErr result (self.new ≡ self.old) }
+    {
         if self.patterns.len() < MOST_PATTERNS && memchr(b'{', text).is_some() {
             self.add_pattern(alloc, text)
         } else {
@@ -57,7 +62,9 @@ impl SoundPatterns {
         }
     }
 
-    fn add_pattern(&mut self, alloc: Global, pattern: &[u8]) -> Result<(), AllocError> {
+    fn add_pattern(&mut self, alloc: Global, pattern: &[u8]) -> Result<(), AllocError>
+        ensures { OnErr result (self.new ≡ self.old) }
+    {
         if self.pieces_of(pattern).is_some() || pattern_fault(pattern).is_some() {
             return Ok(());
         }

@@ -27,12 +27,13 @@ pub enum Written {
 fn passes(limit: usize, own: &[u8], tokens: &[LentToken]) -> bool
     ensures { IsTrue result → limit + 1 < (length tokens.now - 1) * length own.now }
 {
-    limit
-        < tokens
-            .len()
-            .saturating_sub(1)
-            .saturating_mul(own.len())
-            .saturating_sub(1)
+    !own.is_empty()
+        && limit
+            < tokens
+                .len()
+                .saturating_sub(1)
+                .saturating_mul(own.len())
+                .saturating_sub(1)
 }
 
 /// Whether a piece is known to be longer than the limit before it is written.
