@@ -120,6 +120,10 @@ none_same (op ∷ ops) fs gs e h p w k = absurd (omega (arith, e))
 pub nothing_kept : (ops : List Op) (fs : List HeldFrame) → length ops ≡ 0 → SameLeft (kept fs) (whole ops fs)
 nothing_kept ops fs e p w k = sym (none_same ops fs (kept fs) e (λ p w k. refl) p w k)
 
+pub no_op : (ops : List Op) → length ops ≡ 0 → ops ≡ []
+no_op [] e = refl
+no_op (op ∷ ops) e = absurd (omega (arith, e))
+
 -- What an element leads to.
 
 pub element_leads : (p : Program) (e : Element) (fs gs : List Frame) (w : World) (k k1 : Counts) (now o : Ending) → left p fs w k ≡ o → SameLeft fs (Run (Block (Then e End)) ∷ gs) → k1.0 + 1 ≡ k.0 → k1.1 ≡ calls_after e k.1 → now ≡ then_go (act p (eval p) e w k1) (left p gs) → now ≡ o

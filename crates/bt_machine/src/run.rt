@@ -8,7 +8,7 @@
 //! An element is matched where it lies in its body, and what comes after it is only a slice. So the loop holds both in
 //! registers: a copy of an element, or a result that holds a `Target`, would go through memory at each tick.
 
-ghost use Rattle.std.specs.Prelude.{◌≡◌, ◌+◌, ◌≤◌, ◌<◌, length, IfOk, IfSome, OnOk};
+ghost use Rattle.std.specs.Prelude.{◌≡◌, ◌+◌, ◌≤◌, ◌<◌, [], length, IfOk, IfSome, OnOk};
 ghost use Rattle.bt_style.specs.Program.{program_of};
 ghost use Rattle.bt_style.specs.Tree.{End, Then, Called};
 ghost use Rattle.bt_style.specs.declared.builtin.Builtin.TheVariants as builtin;
@@ -51,20 +51,20 @@ fn goes_on(state: &mut State) -> Result<bool, AllocError>
     }
 }
 
-/// Carries out an element, after its tick, and returns what comes next.
+/// Carries out an element that stands before the rest of its body, after its tick, and returns what comes next.
 fn carry_out<'a>(
     state: &mut State<'a>,
     control: &mut Vec<Frame<'a>>,
     tally: &mut Tally,
     context: Context<'a>,
-    op: &'a Op,
-    rest: &'a [Op],
+    at: (&'a Op, &'a [Op]),
 ) -> Result<Next<'a>, AllocError>
     ensures leads { let p = program_of context.entry.style.now in IfOk result (λ to. ComesTo p state.old tally.old state.new tally.new
-        (op_run p op.now) rest.now control.old.items to control.new.items) }
+        (op_run p at.entry.0.now) at.entry.1.now control.old.items to control.new.items) }
     ensures ticks { OnOk result (tally.new.ticks ≤ tally.old.ticks) }
     ensures more { OnOk result (length control.new.items ≤ length control.old.items + 4) }
 {
+    let (op, rest) = at;
     match op {
         Op::Number(n) => Ok(next_after(state.push_number(*n)?, rest)),
         Op::Text(text) => Ok(next_after(state.push_given(text.as_slice())?, rest)),
@@ -90,10 +90,9 @@ fn call_due<'a>(
     tally: &mut Tally,
     context: Context<'a>,
     name: Target,
-    rest: &'a [Op],
 ) -> Result<Option<&'a [Op]>, AllocError>
     ensures leads { IfOk result (λ next. IsCalled (program_of context.entry.style.now) state.old tally.old state.new tally.new
-        name rest.now control.old.items next control.new.items) }
+        name [] control.old.items next control.new.items) }
     ensures ticks { IfOk result (λ next. IfSome next (λ body. tally.new.ticks < tally.old.ticks)) }
     ensures more { OnOk result (length control.new.items ≤ length control.old.items + 4) }
 {
@@ -102,7 +101,7 @@ fn call_due<'a>(
         return Ok(None);
     }
     tally.take(builtin_of(name));
-    let next = call_quoted(state, control, context, name, rest)?;
+    let next = call_quoted(state, control, context, name, &[])?;
     match next {
         Next::Stop => Ok(None),
         Next::Body(body) => Ok(Some(body)),
@@ -131,7 +130,7 @@ fn run_all<'a>(
                     return Ok(Flow::Stop);
                 }
                 tally.take(called_by(op));
-                let next = carry_out(state, &mut control, tally, context, op, after)?;
+                let next = carry_out(state, &mut control, tally, context, (op, after))?;
                 // The loop's measure needs this call's clause that the stack is small.
                 let _depth = state.stack.len();
                 match next {
@@ -149,7 +148,7 @@ fn run_all<'a>(
                     }
                 }
                 Due::Name(name) => {
-                    let next = call_due(state, &mut control, tally, context, name, rest)?;
+                    let next = call_due(state, &mut control, tally, context, name)?;
                     let _depth = state.stack.len();
                     match next {
                         Some(body) => rest = body,

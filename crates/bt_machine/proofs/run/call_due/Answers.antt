@@ -1,4 +1,4 @@
-use Rattle.std.proofs.Common.{◌∙◌, ap, sym, refl}
+use Rattle.std.proofs.Common.{[], ◌∙◌, ap, sym, refl}
 use Rattle.bt_style.specs.Program.{program_of}
 use Rattle.bt_style.specs.Tree.{Called}
 use Rattle.bt_actions.specs.Tally.{with_call}
@@ -15,16 +15,16 @@ returns-then-tally-eq0-clause-leads c =
     let p = program_of c.args.context.style.now in
     let k = counts c.args.tally.now in
     let w = world_of c.args.state.now in
-    let due = call_left c.args.name c.args.rest.now c.args.control.now.items in
-    no_tick_leads p (Called c.args.name) due (whole c.args.rest.now c.args.control.now.items) w (world_of c.tell_no_tick.new.state) k (left p due w k) refl (λ p w k. refl) c.if-tally-eq0.true c.in_ok-tell_no_tick.ensures
+    let due = call_left c.args.name [] c.args.control.now.items in
+    no_tick_leads p (Called c.args.name) due (whole [] c.args.control.now.items) w (world_of c.tell_no_tick.new.state) k (left p due w k) refl (λ p w k. refl) c.if-tally-eq0.true c.in_ok-tell_no_tick.ensures
 
 pub returns-in-Stop-clause-leads : goal.returns-in-Stop-clause-leads
 returns-in-Stop-clause-leads c =
     let p = program_of c.args.context.style.now in
     let k = counts c.args.tally.now in
     let w = world_of c.args.state.now in
-    let rest = whole c.args.rest.now c.args.control.now.items in
-    let due = call_left c.args.name c.args.rest.now c.args.control.now.items in
+    let rest = whole [] c.args.control.now.items in
+    let due = call_left c.args.name [] c.args.control.now.items in
     let calls = c.take.ensures.calls ∙ ap (λ b. with_call b c.args.tally.now.calls) c.builtin_of.ensures in
     let follows : Next → Ending = λ next. followed p next c.call_quoted.new.control.items (world_of c.call_quoted.new.state) (counts c.take.new.self) in
     let did = ap follows (sym c.in-Stop.is) ∙ c.in_ok-next.ensures.leads (counts c.take.new.self) in
@@ -35,8 +35,8 @@ returns-in-Body-clause-leads c =
     let p = program_of c.args.context.style.now in
     let k = counts c.args.tally.now in
     let w = world_of c.args.state.now in
-    let rest = whole c.args.rest.now c.args.control.now.items in
-    let due = call_left c.args.name c.args.rest.now c.args.control.now.items in
+    let rest = whole [] c.args.control.now.items in
+    let due = call_left c.args.name [] c.args.control.now.items in
     let calls = c.take.ensures.calls ∙ ap (λ b. with_call b c.args.tally.now.calls) c.builtin_of.ensures in
     let follows : Next → Ending = λ next. followed p next c.call_quoted.new.control.items (world_of c.call_quoted.new.state) (counts c.take.new.self) in
     let did = ap follows (sym c.in-Body.is) ∙ c.in_ok-next.ensures.leads (counts c.take.new.self) in

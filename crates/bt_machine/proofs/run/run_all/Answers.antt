@@ -10,8 +10,8 @@ use Rattle.bt_actions.specs.declared.code.Code.TheVariants as code
 use Rattle.bt_machine.specs.declared.calls.Next.{Next}
 use Rattle.bt_machine.specs.declared.calls.Next.TheVariants as next
 use Rattle.bt_machine.specs.Eval.{Ending, eval}
-use Rattle.bt_machine.specs.inner.Loop.{Run, counts, IsDue, followed, kept, whole}
-use Rattle.bt_machine.proofs.LoopLemmas.{due_element, element_leads, ends_leads, kept_some, no_tick_leads, starts, turn_leads}
+use Rattle.bt_machine.specs.inner.Loop.{Run, call_left, counts, IsDue, followed, kept, left, whole}
+use Rattle.bt_machine.proofs.LoopLemmas.{due_element, element_leads, ends_leads, kept_some, no_op, no_tick_leads, starts, turn_leads}
 use Rattle.bt_machine.proofs.run.run_all.Goals as goal
 
 pub work-init : goal.work-init
@@ -93,11 +93,13 @@ work-preserved c =
     let p = program_of c.args.context.style.now in
     let is_due = subst (λ d. IsDue d c.work.rest.now c.work.control.items c.next_due.new.control.items) c.in-Name.is c.next_due.ensures in
     let goes = rw c.in-Some-next.is at c.in_ok-next-in-Name.ensures.leads in
-    goes ∙ sym (is_due.0 p (world_of c.work.state) (counts c.work.tally)) ∙ c.work.invariant
+    let whole_left = ap (λ r. left p (call_left c.in-Name.name r c.next_due.new.control.items) (world_of c.work.state) (counts c.work.tally)) (no_op c.work.rest.now c.in-None.ensures.cases) in
+    goes ∙ sym whole_left ∙ sym (is_due.0 p (world_of c.work.state) (counts c.work.tally)) ∙ c.work.invariant
 
 pub returns-in-None-next : goal.returns-in-None-next
 returns-in-None-next c =
     let p = program_of c.args.context.style.now in
     let is_due = subst (λ d. IsDue d c.work.rest.now c.work.control.items c.next_due.new.control.items) c.in-Name.is c.next_due.ensures in
     let stops = rw c.in-None-next.is at c.in_ok-next-in-Name.ensures.leads in
-    stops ∙ sym (is_due.0 p (world_of c.work.state) (counts c.work.tally)) ∙ c.work.invariant
+    let whole_left = ap (λ r. left p (call_left c.in-Name.name r c.next_due.new.control.items) (world_of c.work.state) (counts c.work.tally)) (no_op c.work.rest.now c.in-None.ensures.cases) in
+    stops ∙ sym whole_left ∙ sym (is_due.0 p (world_of c.work.state) (counts c.work.tally)) ∙ c.work.invariant
