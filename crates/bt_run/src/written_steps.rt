@@ -11,7 +11,7 @@ use crate::recorder::Recorder;
 use crate::step::{move_back, move_out};
 use crate::step_command::StepCommand;
 use bt_actions::{Tally, Variables};
-use bt_machine::{Meter, SoundPatterns, activate_once, sound_patterns, step_depends_on_its_input};
+use bt_machine::{SoundPatterns, activate_once, sound_patterns, step_depends_on_its_input};
 use bt_style::{BUILTIN_COUNT, Style, Target};
 use bt_text::{Bytes, Shared, Values};
 use std::alloc::{AllocError, Global};
@@ -76,16 +76,8 @@ impl Recorder for WrittenSteps {
         let job = command.job;
         let alloc = job.alloc;
         let input = move_out(alloc, course, target, place, &self.others)?;
-        let mut meter = Meter::new();
         let mut tally = Tally::new();
-        let (end, lines) = activate_once(
-            alloc,
-            job.style,
-            &self.patterns,
-            input,
-            &mut tally,
-            &mut meter,
-        )?;
+        let (end, lines) = activate_once(alloc, job.style, &self.patterns, input, &mut tally)?;
         move_back(command, course, place, end)?;
         write_own_lines(&mut self.bbl, lines.as_slice())?;
         add_calls(&mut self.calls, &tally.calls)?;
