@@ -112,6 +112,13 @@ calls_exchanged earlier steps s e from next old new at is sums are = λ place lt
     let on : calls_at (drop next earlier) place ≡ calls_at (drop (from + 1) earlier) place = ap (λ n. calls_at (drop n earlier) place) is in
     omega (arith, are place lt, sums place lt, on, calls_left earlier from e place at, calls_more steps s place)
 
+-- an earlier one that was skipped
+pub calls_skipped : (earlier steps : List Step) (e : Step) (at next : ℕ) (none old new : List ℕ) → slice_get earlier at ≡ Some e → next ≡ at + 1 → ((place : ℕ) → place < 37 → slice_index_or none place 0 ≡ 0) →
+    ((place : ℕ) → place < 37 → slice_index_or new place 0 + slice_index_or e.outcome.calls place 0 ≡ slice_index_or old place 0 + slice_index_or none place 0) → AreCallsFrom earlier at steps old → AreCallsFrom earlier next steps new
+calls_skipped earlier steps e at next none old new here is no_calls sums are = λ place lt.
+    let on : calls_at (drop next earlier) place ≡ calls_at (drop (at + 1) earlier) place = ap (λ n. calls_at (drop n earlier) place) is in
+    omega (arith, are place lt, no_calls place lt, sums place lt, on, calls_left earlier at e place here)
+
 -- at the beginning
 pub calls_begun : (earlier : List Step) (next : ℕ) (steps : List Step) (calls : Option (List ℕ)) → next ≡ 0 → steps ≡ [] → ForSome calls (AreCalls earlier) → ForSome calls (AreCallsFrom earlier next steps)
 calls_begun earlier next steps calls first none are = λ c e place lt.

@@ -1,9 +1,10 @@
 //! How often a run called each built-in function, known from the previous run.
 //!
 //! Few steps change from one run to the next. So a run starts with the sums of the previous run. When a new step replaces
-//! an old one, the sums lose the old step's calls and gain the new one's. Only if steps moved are all of them added up.
+//! an old one, or the cursor skips one, the sums lose the old step's calls, and they gain the new one's. Only if steps moved
+//! are all of them added up.
 
-ghost use Rattle.std.specs.Prelude.{◌+◌, ◌++◌, ◌<◌, [], ◌∷◌, List, IfOk, IsTrue, OnOk};
+ghost use Rattle.std.specs.Prelude.{◌+◌, ◌++◌, ◌<◌, ◌≤◌, [], ◌∷◌, List, length, IfOk, IsTrue, OnOk};
 ghost use Rattle.std.specs.Option.{ForSome};
 ghost use Rattle.bt_run.specs.declared.course.Step.{Step as StepSeen};
 ghost use Rattle.bt_run.specs.inner.Calls.{AreCalls, AreCallsFrom, AreExchanged};
@@ -14,6 +15,9 @@ use crate::course::Step;
 use bt_style::BUILTIN_COUNT;
 use bt_text::Shared;
 use std::alloc::AllocError;
+
+/// After a longer jump of the cursor, all calls are added up at the end of the run.
+const SKIPPED: usize = 16;
 
 /// How a step moved the cursor in the steps of the previous run, and whether it is the step at which the cursor stood.
 #[derive(Clone, Copy)]
@@ -31,6 +35,10 @@ pub fn exchange_calls(
 ) -> Result<(), AllocError>
     ensures { OnOk result (AreExchanged sums.old sums.new old.now new.now) }
 {
+    // A step that is reused calls the same.
+    if old.as_slice() == new.as_slice() {
+        return Ok(());
+    }
     'places: for place in 0..BUILTIN_COUNT {
         let rest = sums[place]
             .checked_sub(u64::from(old[place]))
@@ -40,33 +48,48 @@ pub fn exchange_calls(
     Ok(())
 }
 
-/// The calls of the steps so far and of the previous run's steps from the cursor on, after one more step.
+/// Takes away the calls of some of the previous run's steps.
+fn skip_calls(
+    sums: &mut Calls,
+    earlier: &[Shared<Step>],
+    from: usize,
+    count: usize,
+) -> Result<(), AllocError>
+    requires { from + count ≤ length earlier.now }
+    ensures { OnOk result ((steps : List StepSeen) → AreCallsFrom earlier.now from steps sums.old →
+        AreCallsFrom earlier.now (from + count) steps sums.new) }
+{
+    'skipped: for skipped in 0..count {
+        let old = &earlier[from + skipped].outcome.calls;
+        exchange_calls(sums, old, &[0; BUILTIN_COUNT])?;
+    }
+    Ok(())
+}
+
+/// Counts one more step in the calls of the steps so far and of the previous run's steps from the cursor on. False if it
+/// doesn't: then they aren't known.
 #[tactic(auto, using(crate::proofs::TurnLemmas::calls_added, crate::proofs::TurnLemmas::calls_exchanged))]
-fn calls_with(
-    calls: Option<Calls>,
+fn count_in(
+    sums: &mut Calls,
     earlier: &[Shared<Step>],
     turn: Turn,
     step: &Step,
-) -> Result<Option<Calls>, AllocError>
-    ensures { IfOk result (λ more. (steps : List StepSeen) → ForSome calls (AreCallsFrom earlier.now turn.from steps) →
-        ForSome more (AreCallsFrom earlier.now turn.next (steps ++ step.now ∷ []))) }
+) -> Result<bool, AllocError>
+    ensures { IfOk result (λ known. IsTrue known → (steps : List StepSeen) → AreCallsFrom earlier.now turn.from steps sums.old →
+        AreCallsFrom earlier.now turn.next (steps ++ step.now ∷ []) sums.new) }
 {
-    let Some(mut sums) = calls else {
-        return Ok(None);
-    };
-    if turn.next == turn.from {
-        add_calls(&mut sums, &step.outcome.calls)?;
-        return Ok(Some(sums));
+    let Turn { from, next, .. } = turn;
+    if next == from {
+        add_calls(sums, &step.outcome.calls)?;
+        return Ok(true);
     }
-    if turn.from < earlier.len() && turn.next == turn.from + 1 {
-        exchange_calls(
-            &mut sums,
-            &earlier[turn.from].outcome.calls,
-            &step.outcome.calls,
-        )?;
-        return Ok(Some(sums));
+    if next < from || next > earlier.len() || next - from > SKIPPED {
+        return Ok(false);
     }
-    Ok(None)
+    let last = next - 1;
+    skip_calls(sums, earlier, from, last - from)?;
+    exchange_calls(sums, &earlier[last].outcome.calls, &step.outcome.calls)?;
+    Ok(true)
 }
 
 /// Counts one more step. A step that is shared changes nothing: it was counted before.
@@ -83,8 +106,13 @@ pub fn count_step(
     if turn.shared {
         return Ok(());
     }
-    let more = calls_with(*calls, earlier, turn, step)?;
-    *calls = more;
+    let Some(sums) = calls else {
+        return Ok(());
+    };
+    let known = count_in(sums, earlier, turn, step)?;
+    if !known {
+        *calls = None;
+    }
     Ok(())
 }
 
