@@ -65,6 +65,8 @@ pub struct Found {
 pub struct Resolution {
     question: Question,
     found: Found,
+    /// No database after this number has a string. To look for the last one takes as long as the rest of an edit.
+    last_strings: usize,
 }
 
 impl Model for Resolution {
@@ -72,11 +74,11 @@ impl Model for Resolution {
 
     ghost Value = { Question };
 
-    ghost use Rattle.bt_resolve.specs.inner.Kept.{IsFound};
+    ghost use Rattle.bt_resolve.specs.inner.Kept.{AreStringless, IsFound};
 
     ghost view = { λ r. r.question };
 
-    ghost invariant = { λ r. IsFound r.question r.found };
+    ghost invariant = { λ r. IsFound r.question r.found × AreStringless r.last_strings r.question };
 }
 
 /// What an edit changes of a resolution.
@@ -257,6 +259,18 @@ fn find(
 }
 
 impl Resolution {
+    fn of_found(question: Question, found: Found) -> Resolution
+        requires { IsFound question found }
+        ensures { result ≡ question }
+    {
+        let string_databases = string_databases(question.databases.as_slice());
+        Resolution {
+            question,
+            found,
+            last_strings: string_databases.saturating_sub(1),
+        }
+    }
+
     /// What the style sees of some databases. The only error is out of memory.
     pub fn of(alloc: Global, question: Question) -> Result<Resolution, AllocError>
         requires fields { IsTrue (are_apart question.declared.fields) }
@@ -264,7 +278,7 @@ impl Resolution {
         ensures { IfOk result (λ kept. kept ≡ question) }
     {
         let found = find(alloc, &question, None)?;
-        Ok(Resolution { question, found })
+        Ok(Resolution::of_found(question, found))
     }
 
     /// The same as `of`, reusing what this resolution stored. The question must have the same declarations, and the same
@@ -282,7 +296,7 @@ impl Resolution {
     {
         let earlier = Earlier::new(&self.question, &self.found, edited);
         let found = find(alloc, &question, Some(earlier))?;
-        Ok(Resolution { question, found })
+        Ok(Resolution::of_found(question, found))
     }
 
     /// What is resolved.
@@ -313,7 +327,7 @@ impl Resolution {
         let databases = self.question.databases.as_slice();
         let items = &databases[number];
         let pieces = items.pieces();
-        if strings_end(pieces) <= before && string_databases(databases) <= number + 1 {
+        if strings_end(pieces) <= before && self.last_strings <= number {
             return self.found.macros.share();
         }
         let style = self.question.declared.macros.as_slice();
@@ -377,5 +391,6 @@ impl Resolution {
         put_seen(&mut self.found.all.entries, &mut self.found.values, seen);
         self.found.all.messages = messages;
         self.question.databases.set(number, items);
+        self.last_strings = self.last_strings.max(number);
     }
 }

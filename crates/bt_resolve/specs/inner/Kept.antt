@@ -29,7 +29,7 @@ use Rattle.bt_resolve.specs.Resolved.{all_items, resolved, stored_entries}
 use Rattle.bt_resolve.specs.Skeletons.{AreAlike, PairOff, shown}
 use Rattle.bt_resolve.specs.Values.{MacroTexts}
 use Rattle.bt_resolve.specs.inner.Cases.{asked}
-use Rattle.bt_resolve.specs.inner.Databases.{nothing_read}
+use Rattle.bt_resolve.specs.inner.Databases.{DefineNothing, nothing_read}
 use Rattle.bt_resolve.specs.inner.Heirs.{entries_made, heirs_of, is_marked, made_at, stays_among, with_made}
 use Rattle.bt_resolve.specs.inner.Inheritance.{values_read}
 use Rattle.bt_resolve.specs.inner.Patches.{patched}
@@ -82,6 +82,10 @@ found_of read reaches seen = record {
   places = seen.places;
   all = record { entries = seen.entries; preamble = read.preamble; messages = read.messages };
 }
+
+-- no database after a number has a string
+abbrev pub AreStringless : ℕ → Question → Type 0
+AreStringless n q = (k : ℕ) → n < k → DefineNothing (all_items (map items_of (drop k q.databases)))
 
 -- ---- an edit of a database
 
