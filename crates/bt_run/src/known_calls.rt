@@ -16,9 +16,6 @@ use bt_style::BUILTIN_COUNT;
 use bt_text::Shared;
 use std::alloc::AllocError;
 
-/// After a longer jump of the cursor, all calls are added up at the end of the run.
-const SKIPPED: usize = 16;
-
 /// How a step moved the cursor in the steps of the previous run, and whether it is the step at which the cursor stood.
 #[derive(Clone, Copy)]
 pub struct Turn {
@@ -35,7 +32,7 @@ pub fn exchange_calls(
 ) -> Result<(), AllocError>
     ensures { OnOk result (AreExchanged sums.old sums.new old.now new.now) }
 {
-    // A step that is reused calls the same.
+    // A reused step made the same calls.
     if old.as_slice() == new.as_slice() {
         return Ok(());
     }
@@ -66,8 +63,8 @@ fn skip_calls(
     Ok(())
 }
 
-/// Counts one more step in the calls of the steps so far and of the previous run's steps from the cursor on. False if it
-/// doesn't: then they aren't known.
+/// Counts one more step in the calls of the steps so far and of the previous run's steps from the cursor on. Returns false
+/// if the cursor moved backwards; then the sums no longer hold.
 #[tactic(auto, using(crate::proofs::TurnLemmas::calls_added, crate::proofs::TurnLemmas::calls_exchanged))]
 fn count_in(
     sums: &mut Calls,
@@ -83,7 +80,7 @@ fn count_in(
         add_calls(sums, &step.outcome.calls)?;
         return Ok(true);
     }
-    if next < from || next > earlier.len() || next - from > SKIPPED {
+    if next < from || next > earlier.len() {
         return Ok(false);
     }
     let last = next - 1;
@@ -109,8 +106,7 @@ pub fn count_step(
     let Some(sums) = calls else {
         return Ok(());
     };
-    let known = count_in(sums, earlier, turn, step)?;
-    if !known {
+    if !count_in(sums, earlier, turn, step)? {
         *calls = None;
     }
     Ok(())
