@@ -18,7 +18,7 @@ ghost use Rattle.bt_actions.specs.World.{say};
 ghost use Rattle.bt_stack.specs.View.{world_of};
 ghost use Rattle.bt_machine.specs.Eval.{eval};
 ghost use Rattle.bt_machine.specs.inner.Cases.{counts_begun};
-ghost use Rattle.bt_machine.specs.inner.Loop.{counts, run_ended, ComesTo, IsCalled, is_above, op_run};
+ghost use Rattle.bt_machine.specs.inner.Loop.{counts, run_ended, OpComesTo, IsCalled, is_above};
 
 use crate::calls::{Next, call, call_quoted, next_after};
 use crate::control::{Context, Due, Frame, begin, begin_loop, builtin_of, called_by, next_due};
@@ -59,8 +59,8 @@ fn carry_out<'a>(
     context: Context<'a>,
     at: (&'a Op, &'a [Op]),
 ) -> Result<Next<'a>, AllocError>
-    ensures leads { let p = program_of context.entry.style.now in IfOk result (λ to. ComesTo p state.old tally.old state.new tally.new
-        (op_run p at.entry.0.now) at.entry.1.now control.old.items to control.new.items) }
+    ensures leads { IfOk result (λ to. OpComesTo (program_of context.entry.style.now) state.old tally.old state.new tally.new
+        at.entry control.old.items to control.new.items) }
     ensures ticks { OnOk result (tally.new.ticks ≤ tally.old.ticks) }
     ensures more { OnOk result (length control.new.items ≤ length control.old.items + 4) }
 {

@@ -112,9 +112,10 @@ ComesTo p old before new after run rest fs next fs' =
 abbrev pub IsBegun : List Op → List HeldFrame → Tally → List Frame → Tally → Type 0
 IsBegun ops fs after old before = (p : Program) (w : World) → left p (whole ops fs) w (counts after) ≡ left p old w (counts before)
 
--- what an element of a body does
-abbrev pub op_run : Program → Op → World → Counts → Ending
-op_run p op = act p (eval p) (element_of op)
+-- the same of an element, beside the rest of its body
+abbrev pub OpComesTo : Program → State → Tally → State → Tally → Bor Op × Bor (List Op) → List HeldFrame → Next → List HeldFrame → Type 0
+OpComesTo p old before new after at fs next fs' =
+    ComesTo p old before new after (act p (eval p) (element_of at.0.now)) at.1.now fs next fs'
 
 -- Of a call that waited: the body that runs next, or the stop where there is none, comes to what was left before.
 abbrev pub IsCalled : Program → State → Tally → State → Tally → Target → List Op → List HeldFrame → Option (Bor (List Op)) → List HeldFrame → Type 0
