@@ -51,7 +51,7 @@ fn goes_on(state: &mut State) -> Result<bool, AllocError>
     }
 }
 
-/// Carries out an element that stands before the rest of its body, after its tick, and returns what comes next.
+/// Runs an element, whose tick is already taken, and returns what comes next. `at` is the element and the rest of its body.
 fn carry_out<'a>(
     state: &mut State<'a>,
     control: &mut Vec<Frame<'a>>,

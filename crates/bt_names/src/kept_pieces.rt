@@ -53,7 +53,7 @@ impl KeptPart {
     }
 }
 
-/// What `Piece` is, with bytes of its own.
+/// A `Piece` that owns its bytes.
 #[derive(Drop)]
 pub enum KeptPiece {
     Plain(Bytes),
@@ -94,7 +94,7 @@ pub enum Rest<'p> {
     Pieces(&'p [KeptPiece]),
 }
 
-/// Most patterns are known, so this is kept out of the loop over pieces.
+/// The first piece of a pattern that isn't known. Most are known, so this is kept out of the loop over pieces.
 #[cold]
 #[tactic(auto, using(crate::proofs::SoundLemmas::sound_first, crate::proofs::SoundLemmas::sound_rest))]
 fn next_of_bytes(pattern: &[u8]) -> (Piece<'_>, Rest<'_>)

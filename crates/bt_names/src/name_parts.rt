@@ -125,7 +125,7 @@ fn with_commas<'t, 'a>(
 /// The tokens of a name, one section after another. Contracts see the parts of the name.
 #[derive(Drop)]
 pub struct Cut<'a> {
-    /// How many commas part the sections.
+    /// How many commas it has. A `bool` would do, but the whole moves faster without one.
     commas: usize,
     tokens: Vec<LentToken<'a>>,
     /// How many tokens stand before the first comma.

@@ -50,8 +50,8 @@ impl SoundPatterns {
         }
     }
 
-    /// Adds a text if it is a pattern with a group, has no fault, and few are known. The one error is out of memory; the
-    /// patterns are then as before.
+    /// Adds a text if it is a pattern with a group, has no fault, and few are known. The only error is out of memory, and
+    /// then the patterns are as before.
     pub fn add(&mut self, alloc: Global, text: &[u8]) -> Result<(), AllocError>
         ensures { OnErr result (self.new ≡ self.old) }
     {

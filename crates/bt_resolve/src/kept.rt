@@ -65,7 +65,8 @@ pub struct Found {
 pub struct Resolution {
     question: Question,
     found: Found,
-    /// No database after this number has a string. To look for the last one takes as long as the rest of an edit.
+    /// No database after this number has a string. Finding the last one takes as long as the rest of an edit, so edits only
+    /// raise this bound.
     last_strings: usize,
 }
 
