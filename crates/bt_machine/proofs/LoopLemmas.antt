@@ -1,5 +1,5 @@
 -- What is left to do in the loop leads to what the definition says.
-use Rattle.std.proofs.Common.{◌≡◌, ℕ, zero, suc, ◌+◌, ◌≤◌, ◌<◌, List, [], ◌∷◌, ◌++◌, length, true, false, Option, Some, None, refl, sym, ap, ◌∙◌, arith, length-append, Vec, Global}
+use Rattle.std.proofs.Common.{◌≡◌, ◌≢◌, ℕ, zero, suc, ◌+◌, ◌-◌, ◌≤◌, ◌<◌, List, [], ◌∷◌, ◌++◌, length, true, false, Option, Some, None, refl, sym, ap, ◌∙◌, arith, length-append, Vec, Global}
 use Rattle.std.specs.Prelude.{ℤ, pos, negsuc, map, reverse}
 use Rattle.std.proofs.lemmas.List.{get_or_past, length-map, map-append, reverse-append}
 use Rattle.std.proofs.lemmas.Bool.{false≢true}
@@ -21,10 +21,11 @@ use Rattle.bt_actions.specs.Arguments.{as_number, as_code, taken, taken_two, tak
 use Rattle.bt_machine.specs.declared.control.Frame.{Frame as HeldFrame}
 use Rattle.bt_stack.specs.Choice.{chosen_of}
 use Rattle.bt_actions.specs.View.{act_of}
+use Rattle.bt_actions.specs.declared.tally.Tally.{Tally}
 use Rattle.bt_machine.specs.Eval.{Counts, Ending, Done, Stopped, acted, then_go, code_body, function_body, run_with, by_sign, turn, looped, built_in, act, calls_after, eval}
 use Rattle.bt_machine.specs.inner.Cases.{no_definition, finish_of, counts_begun, step_begun}
 use Rattle.bt_machine.specs.Step.{finished_at, step}
-use Rattle.bt_machine.specs.inner.Loop.{Frame, Run, Test, frame_seen, meant, left, run_ended, is_above, kept, whole, SameLeft, is_stop, checked_at}
+use Rattle.bt_machine.specs.inner.Loop.{Frame, Run, Test, frame_seen, meant, left, run_ended, is_above, kept, whole, SameLeft, begun, counts, is_stop, checked_at}
 use Rattle.bt_machine.proofs.Equations.{eval-end, eval-no_tick, eval-then, looped-turn}
 
 -- two runs after one
@@ -126,6 +127,12 @@ no_op (op ∷ ops) e = absurd (omega (arith, e))
 
 -- What an element leads to.
 
+-- ticks and calls once an element's tick is taken
+pub tick_taken : (e : Element) (before after : Tally) → after.ticks + 1 ≡ before.ticks → after.calls ≡ calls_after e before.calls → counts after ≡ begun e before
+tick_taken e before after ticks calls =
+    let less : after.ticks ≡ before.ticks - 1 = omega (arith, ticks) in
+    λ i. (less i, calls i)
+
 pub element_leads : (p : Program) (e : Element) (fs gs : List Frame) (w : World) (k k1 : Counts) (now o : Ending) → left p fs w k ≡ o → SameLeft fs (Run (Block (Then e End)) ∷ gs) → k1.0 + 1 ≡ k.0 → k1.1 ≡ calls_after e k.1 → now ≡ then_go (act p (eval p) e w k1) (left p gs) → now ≡ o
 element_leads p e fs gs w k k1 now o leads same ticks calls did =
     let r : k.0 ≡ suc k1.0 = omega (arith, ticks) in
@@ -135,6 +142,18 @@ element_leads p e fs gs w k k1 now o leads same ticks calls did =
     ∙ ap (λ n. left p (Run (Block (Then e End)) ∷ gs) w (n, k.1)) (sym r)
     ∙ sym (same p w k)
     ∙ leads
+
+-- an element that is seen to be this one, once its tick is taken
+pub seen_leads : (p : Program) (e e' : Element) (w : World) (before after : Tally) (now : Ending) (go : World → Counts → Ending) → e ≡ e' → after.ticks + 1 ≡ before.ticks → after.calls ≡ calls_after e' before.calls → now ≡ then_go (act p (eval p) e' w (counts after)) go → now ≡ then_go (act p (eval p) e w (begun e before)) go
+seen_leads p e e' w before after now go seen ticks calls did =
+    let taken = tick_taken e before after ticks (calls ∙ ap (λ e. calls_after e before.calls) (sym seen)) in
+    did ∙ ap (λ e. then_go (act p (eval p) e w (counts after)) go) (sym seen) ∙ ap (λ k. then_go (act p (eval p) e w k) go) taken
+
+-- the same of an element whose tick is still there
+pub begun_leads : (p : Program) (e : Element) (fs gs : List Frame) (w : World) (t : Tally) (now o : Ending) → left p fs w (counts t) ≡ o → SameLeft fs (Run (Block (Then e End)) ∷ gs) → t.ticks ≢ 0 → now ≡ then_go (act p (eval p) e w (begun e t)) (left p gs) → now ≡ o
+begun_leads p e fs gs w t now o leads same some did =
+    let ticks : t.ticks - 1 + 1 ≡ t.ticks = omega (arith, some) in
+    element_leads p e fs gs w (counts t) (begun e t) now o leads same ticks refl did
 
 pub no_tick_leads : (p : Program) (e : Element) (fs gs : List Frame) (w w' : World) (k : Counts) (o : Ending) → left p fs w k ≡ o → SameLeft fs (Run (Block (Then e End)) ∷ gs) → k.0 ≡ 0 → w' ≡ say TicksPassed w → Stopped w' k ≡ o
 no_tick_leads p e fs gs w w' k o leads same none told =

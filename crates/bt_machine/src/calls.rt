@@ -218,7 +218,7 @@ fn call_runner<'a>(
 
 /// The same, fast for those that run no other.
 #[inline(always)]
-fn call_builtin<'a>(
+pub fn call_builtin<'a>(
     state: &mut State<'a>,
     control: &mut Vec<Frame<'a>>,
     context: Context<'a>,

@@ -20,8 +20,8 @@ ghost use Rattle.bt_machine.specs.Eval.{eval};
 ghost use Rattle.bt_machine.specs.inner.Cases.{counts_begun};
 ghost use Rattle.bt_machine.specs.inner.Loop.{counts, run_ended, OpComesTo, IsCalled, is_above};
 
-use crate::calls::{Next, call, call_quoted, next_after};
-use crate::control::{Context, Due, Frame, begin, begin_loop, builtin_of, called_by, next_due};
+use crate::calls::{Next, call, call_builtin, call_quoted, next_after};
+use crate::control::{Context, Due, Frame, begin, begin_loop, builtin_of, next_due};
 use crate::idioms::{put_block, put_name};
 use bt_actions::{Code, Complaint, Flow, Tally};
 use bt_stack::{State, take_number};
@@ -51,7 +51,8 @@ fn goes_on(state: &mut State) -> Result<bool, AllocError>
     }
 }
 
-/// Runs an element, whose tick is already taken, and returns what comes next. `at` is the element and the rest of its body.
+/// Takes an element's tick, runs it, and returns what comes next. `at` is the element and the rest of its body. The call is
+/// counted where the element's kind is known already: before the `match` it would be asked for twice.
 fn carry_out<'a>(
     state: &mut State<'a>,
     control: &mut Vec<Frame<'a>>,
@@ -59,27 +60,44 @@ fn carry_out<'a>(
     context: Context<'a>,
     at: (&'a Op, &'a [Op]),
 ) -> Result<Next<'a>, AllocError>
+    requires { 0 < tally.old.ticks }
     ensures leads { IfOk result (λ to. OpComesTo (program_of context.entry.style.now) state.old tally.old state.new tally.new
         at.entry control.old.items to control.new.items) }
-    ensures ticks { OnOk result (tally.new.ticks ≤ tally.old.ticks) }
+    ensures ticks { OnOk result (tally.new.ticks < tally.old.ticks) }
     ensures more { OnOk result (length control.new.items ≤ length control.old.items + 4) }
 {
     let (op, rest) = at;
     match op {
-        Op::Number(n) => Ok(next_after(state.push_number(*n)?, rest)),
-        Op::Text(text) => Ok(next_after(state.push_given(text.as_slice())?, rest)),
+        Op::Number(n) => {
+            tally.take(None);
+            Ok(next_after(state.push_number(*n)?, rest))
+        }
+        Op::Text(text) => {
+            tally.take(None);
+            Ok(next_after(state.push_given(text.as_slice())?, rest))
+        }
         Op::Quote(target) => {
+            tally.take(None);
             let next = put_name(state, control, tally, *target, rest)?;
             Ok(next)
         }
         Op::Block(ops) => {
+            tally.take(None);
             let next = put_block(state, control, tally, ops, rest)?;
             Ok(next)
         }
-        Op::Call(target) => {
-            let next = call(state, control, context, *target, rest)?;
-            Ok(next)
-        }
+        Op::Call(target) => match *target {
+            Target::Builtin(builtin) => {
+                tally.take(Some(builtin));
+                let next = call_builtin(state, control, context, builtin, rest)?;
+                Ok(next)
+            }
+            target => {
+                tally.take(builtin_of(target));
+                let next = call(state, control, context, target, rest)?;
+                Ok(next)
+            }
+        },
     }
 }
 
@@ -129,7 +147,6 @@ fn run_all<'a>(
                     tell_no_tick(state)?;
                     return Ok(Flow::Stop);
                 }
-                tally.take(called_by(op));
                 let next = carry_out(state, &mut control, tally, context, (op, after))?;
                 // The loop's measure needs this call's clause that the stack is small.
                 let _depth = state.stack.len();

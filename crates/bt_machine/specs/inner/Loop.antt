@@ -1,6 +1,6 @@
 -- What is left to do in the loop, what it means, and what an element leads to.
 use Rattle.std.proofs.Common.{Bor}
-use Rattle.std.specs.Prelude.{◌≡◌, ℤ, pos, negsuc, zero, suc, ◌≤◌, ◌<◌, Bool, true, false, List, [], ◌∷◌, Option, Some, None, length, map, reverse}
+use Rattle.std.specs.Prelude.{◌≡◌, ℤ, pos, negsuc, zero, suc, ◌≤◌, ◌<◌, ◌-◌, Bool, true, false, List, [], ◌∷◌, Option, Some, None, length, map, reverse}
 use Rattle.bt_style.specs.declared.style.Op.{Op}
 use Rattle.bt_style.specs.declared.style.Target.{Target}
 use Rattle.bt_style.specs.Program.{Program}
@@ -22,7 +22,7 @@ use Rattle.bt_machine.specs.declared.calls.Next.TheVariants as next
 use Rattle.bt_machine.specs.declared.control.Due.{Due}
 use Rattle.bt_machine.specs.declared.control.Due.TheVariants as due
 use Rattle.bt_machine.specs.declared.control.Frame.TheVariants as held
-use Rattle.bt_machine.specs.Eval.{Counts, Ending, Done, Stopped, by_sign, then_go, code_body, turn, eval, act, looped}
+use Rattle.bt_machine.specs.Eval.{Counts, Ending, Done, Stopped, by_sign, then_go, code_body, turn, eval, act, calls_after, looped}
 use Rattle.bt_machine.specs.inner.Cases.{checked}
 
 -- one thing that is left to do
@@ -112,10 +112,15 @@ ComesTo p old before new after run rest fs next fs' =
 abbrev pub IsBegun : List Op → List HeldFrame → Tally → List Frame → Tally → Type 0
 IsBegun ops fs after old before = (p : Program) (w : World) → left p (whole ops fs) w (counts after) ≡ left p old w (counts before)
 
--- the same of an element, beside the rest of its body
+-- ticks and calls once an element's tick is taken
+abbrev pub begun : Element → Tally → Counts
+begun e t = (t.ticks - 1, calls_after e t.calls)
+
+-- the same of an element, whose tick is still to be taken, beside the rest of its body
 abbrev pub OpComesTo : Program → State → Tally → State → Tally → Bor Op × Bor (List Op) → List HeldFrame → Next → List HeldFrame → Type 0
 OpComesTo p old before new after at fs next fs' =
-    ComesTo p old before new after (act p (eval p) (element_of at.0.now)) at.1.now fs next fs'
+    followed p next fs' (world_of new) (counts after)
+    ≡ then_go (act p (eval p) (element_of at.0.now) (world_of old) (begun (element_of at.0.now) before)) (left p (whole at.1.now fs))
 
 -- Of a call that waited: the body that runs next, or the stop where there is none, comes to what was left before.
 abbrev pub IsCalled : Program → State → Tally → State → Tally → Target → List Op → List HeldFrame → Option (Bor (List Op)) → List HeldFrame → Type 0
