@@ -5,7 +5,6 @@ pub mod SplittingLemmas
 pub mod PatternLemmas
 pub mod LengthLemmas
 pub mod CallLemmas
-pub mod KnownLemmas
 pub mod SectionLemmas
 pub mod NameLemmas
 pub mod CutLemmas

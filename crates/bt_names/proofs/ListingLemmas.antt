@@ -86,12 +86,6 @@ names_here t start i d h g e =
     let here = ap (λ d. eqb d 0 && has_and_at t i) (sym g) ∙ e in
     names_from_more t start i h ∙ cond-true (eqb (depth (take i t)) 0 && has_and_at t i) (slice_range t start i ∷ names_from t (i + 3) (i + 1)) (names_from t start (i + 1)) here
 
-pub name_passed : (t : List ℕ) (start i left d : ℕ) (name : Option (List ℕ)) → i < length t → d ≡ depth (take i t) → (eqb d 0 && has_and_at t i) ≡ true → 0 < left → slice_get (names_from t start i) left ≡ name → slice_get (names_from t (i + 3) (i + 1)) (left - 1) ≡ name
-name_passed t start i zero d name h g e k f = absurd (omega arith)
-name_passed t start i (suc left) d name h g e k f =
-    let one : suc left - 1 ≡ left = omega arith in
-    ap (slice_get (names_from t (i + 3) (i + 1))) one ∙ sym (ap (λ ts. slice_get ts (suc left)) (names_here t start i d h g e)) ∙ f
-
 pub depth_behind_most : (d b : ℕ) → depth_after d b ≤ d + 1
 depth_behind_most d b = by_test (eqb b 123) (eqb b 125)
   where
@@ -110,13 +104,17 @@ no_and b (n ∷ []) h = refl
 no_and b (n ∷ d ∷ []) h = refl
 no_and b (n ∷ d ∷ w ∷ t) h = and_left _ (is_white w) (and_left (eqb (to_ascii_lowercase b) 97) _ (small_a b h))
 
-pub no_and_at : (t : List ℕ) (i : ℕ) → i < length t → (eqb (get_or t i 0) 97 || eqb (get_or t i 0) 65 || eqb (get_or t i 0) 123 || eqb (get_or t i 0) 125) ≡ false → has_and_at t i ≡ false
+no_and_at : (t : List ℕ) (i : ℕ) → i < length t → (eqb (get_or t i 0) 97 || eqb (get_or t i 0) 65 || eqb (get_or t i 0) 123 || eqb (get_or t i 0) 125) ≡ false → has_and_at t i ≡ false
 unfolding has_and_at
 no_and_at t i lt h = and_right (follows_white t i) (begins_with_and (drop i t)) (ap begins_with_and (drop_more t i 0 lt) ∙ no_and (get_or t i 0) (drop (i + 1) t) h)
 
 -- The depth changes only at braces.
-pub unmarked_depth : (d b : ℕ) → (eqb b 97 || eqb b 65 || eqb b 123 || eqb b 125) ≡ false → depth_after d b ≡ d
+unmarked_depth : (d b : ℕ) → (eqb b 97 || eqb b 65 || eqb b 123 || eqb b 125) ≡ false → depth_after d b ≡ d
 unmarked_depth d b h = grind (arith, nat_tests)
+
+-- Bytes that aren't marks change nothing.
+pub unmarked : (t : List ℕ) (i : ℕ) → i < length t → (eqb (get_or t i 0) 97 || eqb (get_or t i 0) 65 || eqb (get_or t i 0) 123 || eqb (get_or t i 0) 125) ≡ false → (depth (take i t) ≡ depth (take (i + 1) t)) × ((eqb (depth (take i t)) 0 && has_and_at t i) ≡ false)
+unmarked t i lt plain = (sym (depth_take t i lt ∙ unmarked_depth (depth (take i t)) (get_or t i 0) plain), and_right (eqb (depth (take i t)) 0) (has_and_at t i) (no_and_at t i lt plain))
 
 pub and_at : (t : List ℕ) (i : ℕ) → has_and_at t i ≡ (follows_white t i && begins_with_and (drop i t))
 unfolding has_and_at

@@ -47,11 +47,7 @@ fn separates(names: &[u8], place: usize, depth: usize) -> bool
     requires { place < length names.now }
     ensures { result ≡ (depth == 0 && has_and_at names.now place) }
 {
-    if is_mark(names[place]) {
-        depth == 0 && has_and_at(names, place)
-    } else {
-        false
-    }
+    depth == 0 && has_and_at(names, place)
 }
 
 /// The depth after a mark. It stands apart, because the loops below would compute it at each byte.
@@ -61,18 +57,6 @@ fn depth_after_mark(depth: usize, mark: u8) -> usize
     ensures { result ≡ depth_after depth mark }
 {
     depth_after(depth, mark)
-}
-
-#[tactic(auto, using(crate::proofs::ListingLemmas::unmarked_depth))]
-fn depth_behind(depth: usize, byte: u8) -> usize
-    requires { depth < usize.MAX }
-    ensures { result ≡ depth_after depth byte }
-{
-    if is_mark(byte) {
-        depth_after_mark(depth, byte)
-    } else {
-        depth
-    }
 }
 
 /// How many names a text lists: one more than there are separators outside of braces, and none if it is empty.
@@ -85,11 +69,15 @@ pub fn count(names: &[u8]) -> usize
     }
     let mut count = 1;
     let mut depth = 0;
-    for (place, byte) in names.iter().enumerate() {
+    'walk: for place in 0..names.len() {
+        let byte = names[place];
+        if !is_mark(byte) {
+            continue;
+        }
         if separates(names, place, depth) {
             count += 1;
         }
-        depth = depth_behind(depth, *byte);
+        depth = depth_after_mark(depth, byte);
     }
     count
 }
@@ -117,7 +105,11 @@ fn name_after(names: &[u8], before: usize) -> Option<&[u8]>
     let mut left = before;
     let mut start = 0;
     let mut depth = 0;
-    for (place, byte) in names.iter().enumerate() {
+    'walk: for place in 0..names.len() {
+        let byte = names[place];
+        if !is_mark(byte) {
+            continue;
+        }
         if separates(names, place, depth) {
             if left == 0 {
                 return Some(between(names, start, place));
@@ -125,7 +117,7 @@ fn name_after(names: &[u8], before: usize) -> Option<&[u8]>
             left -= 1;
             start = place + 3;
         }
-        depth = depth_behind(depth, *byte);
+        depth = depth_after_mark(depth, byte);
     }
     if left == 0 {
         Some(from_place(names, start))

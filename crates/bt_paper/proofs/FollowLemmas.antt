@@ -11,9 +11,6 @@ use Rattle.bt_paper.specs.Paper.{text_at, is_among, KeepsTexts, KeepsOthers}
 abbrev Texts : Type 0
 Texts = List ℕ → Option (List ℕ)
 
-pub keeps_same : (t : Texts) → KeepsTexts t t
-keeps_same t uri text e = e
-
 pub keeps_both : (t u v : Texts) → KeepsTexts t u → KeepsTexts u v → KeepsTexts t v
 keeps_both t u v p q uri text e = q uri text (p uri text e)
 

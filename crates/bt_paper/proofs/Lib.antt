@@ -1,4 +1,3 @@
 pub mod KnownLemmas
 pub mod TextLemmas
 pub mod FollowLemmas
-pub mod RefusalLemmas

@@ -1,7 +1,6 @@
 -- What an edit of a session does to the texts of names.
-use Rattle.std.proofs.Common.{◌≡◌, ◌∙◌, ap, sym, refl, subst, ℕ, Bool, true, false, List, [], Option, Some, None, option_map, Bor}
+use Rattle.std.proofs.Common.{◌≡◌, ◌∙◌, ap, sym, refl, subst, ℕ, Bool, true, false, List, Option, Some, None, option_map, Bor}
 use Rattle.std.specs.Prelude.{if◌then◌else◌, bytes_eq, unwrap_or, IsTrue}
-use Rattle.bt_job.specs.declared.files.File.{File}
 use Rattle.bt_job.specs.FileNames.{text_of}
 use Rattle.bibtex.specs.declared.state.State.{State}
 use Rattle.bibtex.specs.Present.{with_text}
@@ -10,7 +9,7 @@ use Rattle.bibtex.proofs.TextLemmas.{same_name, flipped, put_is, text_of_put, te
 use Rattle.bt_paper.specs.declared.known.Known.{Known}
 use Rattle.bt_paper.specs.Known.{name_of}
 use Rattle.bt_paper.specs.Paper.{text_under, text_at, GivesText, OthersStay, KeepsTexts, KeepsOthers, IsOfJob, KeepsJob}
-use Rattle.bt_paper.proofs.KnownLemmas.{not_none, is_itself, names_apart}
+use Rattle.bt_paper.proofs.KnownLemmas.{not_none, names_apart}
 
 -- a text that was written
 pub text_written : (name new : List ℕ) (s t : State) → t ≡ record s { texts = with_text name new s.texts } → GivesText name new s t
@@ -87,21 +86,3 @@ text_reread s t known uri name is stay other text apart e =
 pub others_given : (s t : State) (name new : List ℕ) (b : Bool) → (b ≡ false → t ≡ s) → (IsTrue b → GivesText name new s t) → OthersStay name s t
 others_given s t name new false kept gives other apart = ap (λ (x : State). text_of x.texts other) (kept refl)
 others_given s t name new true kept gives other apart = gives refl other ∙ rw apart refl
-
--- ---- what `write` says of URIs
-
--- others keep what they have, a text or none
-pub uris_stay : (s t : State) (known : List Known) (uri other name : List ℕ) → name_of known uri ≡ Some name → OthersStay name s t → bytes_eq other uri ≡ false →
-    text_at (Some t) known other ≡ text_at (Some s) known other
-uris_stay s t known uri other name is stay apart = go (name_of known other) refl
-  where
-    flip : bytes_eq other uri ≡ false → bytes_eq uri other ≡ false
-    flip apart = flipped uri other ∙ apart
-
-    go : (o : Option (List ℕ)) → name_of known other ≡ o → text_under (Some t) (name_of known other) ≡ text_under (Some s) (name_of known other)
-    go None is_none = rw is_none refl
-    go (Some n) is_some = rw is_some (stay n (names_apart known uri other name n is is_some (flip apart)))
-
--- the file at a URI has its new text
-pub uri_written : (s t : State) (known : List Known) (uri name new : List ℕ) → name_of known uri ≡ Some name → GivesText name new s t → text_at (Some t) known uri ≡ Some new
-uri_written s t known uri name new is gives = rw is (gives name ∙ rw (is_itself name) refl)

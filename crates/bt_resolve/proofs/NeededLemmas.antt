@@ -1,33 +1,20 @@
 -- Entries inherit the same if only those inherit that are needed.
 use Rattle.std.proofs.Common.{◌≡◌, ◌≢◌, ◌∙◌, ap, sym, refl, subst, ℕ, ◌+◌, ◌<◌, ◌≤◌, Bool, true, false, List, [], ◌∷◌, length, map, drop, replicate, get_or, Option, Some, None}
-use Rattle.std.specs.Prelude.{◌==◌, filter_map, slice_get, slice_set}
-use Rattle.std.specs.List.{cons_option}
+use Rattle.std.specs.Prelude.{◌==◌}
 use Rattle.std.proofs.lemmas.Bool.Decides.{Decides-eqb}
-use Rattle.std.proofs.lemmas.List.{drop_all, drop_more, get_or-set_other}
-use Rattle.bt_resolve.specs.declared.asked.Asked.{Asked}
+use Rattle.std.proofs.lemmas.List.{drop_all, drop_more}
 use Rattle.bt_resolve.specs.declared.entry.Entry.{Entry}
 use Rattle.bt_resolve.specs.declared.stored.Stored.{Stored}
 use Rattle.bt_resolve.specs.Inherited.{inherited}
-use Rattle.bt_resolve.specs.inner.Cases.{entry_at, inherits, parent_at}
-use Rattle.bt_resolve.specs.inner.Heirs.{AreSameAt, IsClosed, IsClosedAt, MarksAll, entries_made, inherits_if, is_marked, made_at, made_if, some_inherit}
+use Rattle.bt_resolve.specs.inner.Cases.{inherits, parent_at}
+use Rattle.bt_resolve.specs.inner.Heirs.{AreSameAt, IsClosed, IsClosedAt, inherits_if, is_marked, made_if, some_inherit}
 use Rattle.bt_resolve.specs.inner.Inheritance.{all_inherit, inherits_at}
-use Rattle.bt_resolve.proofs.HeirEditLemmas.{is_set}
 use Rattle.bt_resolve.proofs.InheritingLemmas.{at_test, other_place}
 
 abbrev Values : Type 0
 Values = List (Option (List ℕ))
 
 -- ---- marks
-
-marked_still : (marks : List Bool) (p k : ℕ) (b : Bool) → (k == p) ≡ b → is_marked marks k ≡ true → is_marked (slice_set marks p true) k ≡ true
-marked_still marks p k true is marked = ap (is_marked (slice_set marks p true)) ((Decides-eqb k p).0 is) ∙ is_set marks p
-marked_still marks p k false is marked =
-    let other : k ≢ p = λ (same : k ≡ p). (let yes_is : (k == p) ≡ true = (Decides-eqb k p).1 same in let wrong : true ≡ false = sym yes_is ∙ is in cc) in
-    get_or-set_other marks p k true true other ∙ marked
-
--- one mark more
-pub marks_more : (first marks next : List Bool) (p : ℕ) → MarksAll first marks → next ≡ slice_set marks p true → MarksAll first next
-marks_more first marks next p all is k marked = ap (λ (ms : List Bool). is_marked ms k) is ∙ marked_still marks p k (k == p) refl (all k marked)
 
 -- a mark for each entry
 pub none_marked : (stored : List Stored) → replicate (length stored) false ≡ map (λ (s : Stored). false) stored
@@ -78,14 +65,3 @@ needed_same stored marks ps before after closed is k marked =
 made_same : (b : Bool) (made others old : Option Entry) → (b ≡ true → made ≡ others) → made_if b made old ≡ made_if b others old
 made_same true made others old same = same refl
 made_same false made others old same = refl
-
-entries_same : (made others : ℕ → Option Entry) (marked : ℕ → Bool) (ps : List ℕ) (old : List Entry) → ((p : ℕ) → marked p ≡ true → made p ≡ others p) → entries_made made marked ps old ≡ entries_made others marked ps old
-entries_same made others marked [] old same = refl
-entries_same made others marked (p ∷ ps) old same =
-    λ j. cons_option (made_same (marked p) (made p) (others p) (slice_get old 0) (same p) j) (entries_same made others marked ps (drop 1 old) same j)
-
--- entries are the same if those that are marked have the same values
-pub made_of_same : (a : Asked) (min : ℕ) (stored : List Stored) (marks : List Bool) (vs ws : List Values) (ps : List ℕ) (old : List Entry) → AreSameAt marks vs ws →
-    entries_made (made_at a min stored vs) (is_marked marks) ps old ≡ entries_made (made_at a min stored ws) (is_marked marks) ps old
-made_of_same a min stored marks vs ws ps old same =
-    entries_same (made_at a min stored vs) (made_at a min stored ws) (is_marked marks) ps old (λ p marked. ap (λ (v : Values). entry_at a min stored (λ q. v) p) (same p marked))

@@ -210,9 +210,6 @@ same_wanted a stored others alike key = over (λ ss. is_wanted a ss key) (λ ss.
 pub same_stored : (stored others : List Stored) → AreAlike stored others → (key : List ℕ) → is_stored stored key ≡ is_stored others key
 same_stored stored others alike key = over (λ ss. is_stored ss key) (λ ss. bare_stored ss key) stored others alike
 
-pub same_referred : (stored others : List Stored) → AreAlike stored others → (key : List ℕ) → is_referred_to stored key ≡ is_referred_to others key
-same_referred stored others alike key = over (λ (ss : List Stored). is_referred_to ss key) (λ ss. bare_referred ss key) stored others alike
-
 pub same_parent : (stored others : List Stored) → AreAlike stored others → (p : ℕ) → parent_at stored p ≡ parent_at others p
 same_parent stored others alike p = over (λ ss. parent_at ss p) (λ ss. bare_parent_at ss p) stored others alike
 

@@ -1,5 +1,5 @@
 -- Items in the place of others with the same skeletons.
-use Rattle.std.proofs.Common.{◌≡◌, ◌∙◌, ap, sym, refl, subst, append_assoc, append-nil, ℕ, Bool, true, false, List, [], ◌∷◌, ◌++◌, reverse, map, Option, Some, None}
+use Rattle.std.proofs.Common.{◌≡◌, ◌∙◌, ap, sym, refl, append_assoc, append-nil, ℕ, Bool, true, false, List, [], ◌∷◌, ◌++◌, reverse, map, Option, Some, None}
 use Rattle.std.specs.Prelude.{◌&&◌, not, codes, cond, filter, if◌then◌else◌}
 use Rattle.bt_text.specs.CaseFolding.{folded}
 use Rattle.bt_bib.specs.declared.fault.ItemFault.{ItemFault}
@@ -91,9 +91,6 @@ defined_like macros fault other (contents.Define d) y is same = λ j. with_conte
 defined_like macros fault other (contents.Preamble parts) y is same = λ j. with_content (same refl j) (is j) macros
 
 -- ---- one item more
-
-like_over : (macros others : MacroTexts) (x y : Content) → macros ≡ others → IsLike macros x y → IsLike others x y
-like_over macros others x y is like = subst (λ (m : MacroTexts). IsLike m x y) is like
 
 -- what is added to lists that are alike
 alike_with : (a : Asked) (macros : MacroTexts) (x y : Content) (stored others : List Stored) → AreAlike stored others → IsLike macros x y → AreAlike (added a macros stored x) (added a macros others y)

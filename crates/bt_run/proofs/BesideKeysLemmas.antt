@@ -6,7 +6,7 @@ use Rattle.std.specs.Cmp.Lexicographic.{slice_cmp}
 use Rattle.std.proofs.Common.{Ordering, Less, Equal, Greater, ◌≡◌, refl, sym, ap, ◌∙◌, subst, inl, inr, ℕ, zero, suc, ◌+◌, ◌<◌, ◌≤◌, Bool, true, false, List, [], ◌∷◌, ◌++◌, length, All, Option, Some, None, arith}
 use Rattle.std.proofs.lemmas.Bool.{cases_eq}
 use Rattle.std.proofs.lemmas.Option.{get_or_from_slice_get, slice_get_within}
-use Rattle.std.proofs.lemmas.List.{get_or-append-add, get_or_append_left, length-take-le}
+use Rattle.std.proofs.lemmas.List.{length-take-le}
 use Rattle.std.proofs.lemmas.List.Elements.{All-head, All-nil, All-tail}
 use Rattle.bt_style.specs.declared.style.Action.{Action}
 use Rattle.bt_style.specs.declared.style.Action.TheVariants.{Entry as Entries, Execute, Function, Integers, Iterate, Macro, Read, Reverse, Sort, Strings}
@@ -229,24 +229,6 @@ module _ (job : Job) (law : DependsOnInput job.program) where
         let both = subst (λ (ss : List Step). AreBefore iterate_number ss b) whole at in
         let meet = meet_at ready.seen others.seen iterate_number b before behind both.within both.before both.behind in
         sym (length-take-le b (ready.seen ++ others.seen) both.within) ∙ ap length meet.0
-
-    -- ITERATE's step of an index was given the entry that SORT put there, as SORT found it.
-    pub sorted_seen : (b : ℕ) → AreBefore iterate_number (commands_run job log).seen b → (j : ℕ) (d : Step) → j < length sort_order → (slice_index_or (commands_run job log).seen (b + j) d).input.entry ≡ Some (slice_index_or unsorted.course.entries (slice_index_or sort_order j 0) no_entry)
-    sorted_seen b at j d lt =
-        let rest = (commands_from app job (suc iterate_number) ys (recorded each.course [])).seen in
-        let first = first_is b at in
-        let within : j < length ready.course.order = omega (arith, lt, ap length found.order) in
-        let here : j < length each.seen = omega (arith, within, for_each.count) in
-        let there : slice_index_or (commands_run job log).seen (b + j) d ≡ slice_index_or each.seen j d =
-        ap (λ (ss : List Step). slice_index_or ss (b + j) d) whole
-        ∙ ap (λ (k : ℕ). slice_index_or (ready.seen ++ others.seen) (k + j) d) first
-        ∙ get_or-append-add ready.seen others.seen j d
-        ∙ ap (λ (ss : List Step). slice_index_or ss j d) others_seen
-        ∙ get_or_append_left each.seen rest d j here
-        in
-        ap (λ (s : Step). s.input.entry) there
-        ∙ for_each.inputs j d within
-        ∙ (λ k. Some (slice_index_or (found.entries k) (slice_index_or (found.order k) j 0) no_entry))
 
     -- the steps of ITERATE among all
     each_of : All (λ (s : Step). s.command ≡ iterate_number) each.seen

@@ -87,22 +87,6 @@ module _ (p : Program) (key : List ℕ) (first : Difference) (ss : List Step) wh
       subst (AreUpTo p key first ss us (k + 1)) (ap (λ (b : Bool). left b now s) other)
       (more us us k now s s at h own.0 h.count taken (drop_more_same us ss k h.rest))
 
-  -- Many steps in turn that are for other entries or none: they are given what they were given before, if the first is.
-  pub stretch_upto : (us : List Step) (k c : ℕ) (now : Difference) (t : Step) → All (IsStep p) ss → AreInTurn ss → ((i : ℕ) (s : Step) → k ≤ i → i ≤ k + c → slice_get ss i ≡ Some s → is_for key s ≡ false) → ((s : Step) → slice_get ss k ≡ Some s → IsGivenAlike now s) → slice_get ss (k + c) ≡ Some t → AreUpTo p key first ss us k now → AreUpTo p key first ss us (k + c + 1) (left false now t)
-  stretch_upto us k zero now t all turn others alike at h =
-      let here : k + 0 ≡ k = omega arith in
-      let at_k : slice_get ss k ≡ Some t = sym (ap (slice_get ss) here) ∙ at in
-      subst (λ (i : ℕ). AreUpTo p key first ss us (i + 1) (left false now t)) (sym here)
-      (same_upto us k now t at_k (step_at p ss k t all at_k) (others k t (omega arith) (omega arith) at_k) (alike t at_k) h)
-  stretch_upto us k (suc c) now t all turn others alike at h =
-      let next : k + suc c ≡ k + c + 1 = omega arith in
-      let there : slice_get ss (k + c + 1) ≡ Some t = sym (ap (slice_get ss) next) ∙ at in
-      let before = element ss (k + c) (omega (arith, slice_get_within ss (k + c + 1) t there)) in
-      let rest = stretch_upto us k c now before.0 all turn (λ i s low high. others i s low (omega (arith, high))) alike before.1 h in
-      let after = turn (k + c) before.0 t before.1 there in
-      let own = same_upto us (k + c + 1) (left false now before.0) t there (step_at p ss (k + c + 1) t all there) (others (k + c + 1) t (omega arith) (omega arith) there) (record { globals = sym after.globals; held = sym after.held }) rest in
-      subst (λ (i : ℕ). AreUpTo p key first ss us (i + 1) (left false now t)) (sym next) own
-
 -- A later step changes nothing of what is beside up to a number.
 pub early_put : (p : Program) (key : List ℕ) (o now : Difference) (ss us : List Step) (j k : ℕ) (u : Step) → j ≤ k → AreBeside p key o (take j ss) (take j us) now → AreBeside p key o (take j ss) (take j (slice_set us k u)) now
 early_put p key o now ss us j k u le is =

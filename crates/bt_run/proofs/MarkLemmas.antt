@@ -13,7 +13,7 @@ use Rattle.bt_run.specs.declared.course.Step.{Step}
 use Rattle.bt_run.specs.declared.mark.Mark.{Mark}
 use Rattle.bt_run.specs.Course.{input_at}
 use Rattle.bt_run.specs.inner.Course.{variables_back}
-use Rattle.bt_run.specs.inner.Earlier.{fixed, AreSame, IsSameAt}
+use Rattle.bt_run.specs.inner.Earlier.{fixed, IsSameAt}
 use Rattle.bt_run.specs.inner.Marks.{step_tag, bare_mark, AreMarked, HaveSameEntry, IsMark}
 use Rattle.bt_run.proofs.EarlierLemmas.{fixed_back, last_or}
 
@@ -38,10 +38,6 @@ bare_marked entries steps = record {
 pub same_marked : (entries : List Entry) (s : Step) (m : Mark) (i : Input) (place : Option ℕ) (same : List Bool) → IsMark entries s m → IsSameAt same m.place place → HaveSameEntry entries i place same → option_map fixed s.input.entry ≡ option_map fixed i.entry
 same_marked entries s m i None same mark is h = absurd is
 same_marked entries s m i (Some n) same mark is h = mark.placed n is.0 ∙ sym (h n refl is.1)
-
--- the entry that a step is given, where it is marked as the same
-pub same_given : (entries others : List Entry) (same : List Bool) (i : Input) (place : Option ℕ) → AreSame entries others same → i.entry ≡ entry_in others place → HaveSameEntry entries i place same
-same_given entries others same i place h is n at here = ap (option_map fixed) (is ∙ ap (entry_in others) at) ∙ ap Some (sym (h n here))
 
 pub marked_more : (w : World) (steps : List Step) (marks : List Mark) (s : Step) (t : Target) (x : Option ℕ) (v : Option Variables) (tag : ℕ) → AreMarked w.entries steps marks → s.input ≡ input_at t x w → tag ≡ step_tag s → AreMarked (variables_back x v w.entries) (steps ++ s ∷ []) (marks ++ record { place = x; tag = tag } ∷ [])
 marked_more w steps marks s t x v tag h is is_tag = record {

@@ -27,8 +27,8 @@ use Rattle.bt_run.specs.inner.Beside.{FindsChanged, first_of}
 use Rattle.bt_run.specs.inner.Cases.{bbl_of, job_for, text_in}
 use Rattle.bt_run.specs.inner.Change.{IsAskedOf, IsAskedOfKept, IsAskedOfRun}
 use Rattle.bt_run.specs.inner.ChangedEntry.{IsChangedEntry}
-use Rattle.bt_run.specs.inner.Put.{AreShown, GoesOver, IsPutBeside}
-use Rattle.bt_run.specs.inner.Follow.{IsNewRun, IsReportOf, IsStill}
+use Rattle.bt_run.specs.inner.Put.{AreShown, GoesOver, IsPartOf, IsPutBeside, with_bbl_of}
+use Rattle.bt_run.specs.inner.Follow.{IsNewRun, IsReportOf}
 use Rattle.bt_run.specs.inner.Unseen.{AreOtherwise, AreTextsOf, IsRunOf}
 use Rattle.bt_run.specs.inner.Walk.{IsWalkFrom, IsWalkedOut, with_steps}
 use Rattle.bt_run.proofs.DistinctNameLemmas.{run_names_distinct}
@@ -44,10 +44,6 @@ use Rattle.bt_run.proofs.WalkedRunLemmas.{walked_meaning, walked_report, walked_
 pub run_still : (files : List File) (root : List ℕ) (min : ℕ) (was now : Run) → IsRunOf files root min was → now.answers ≡ was.answers → now.kept.text ≡ was.kept.text → now.kept.steps ≡ was.kept.steps → IsRunOf files root min now
 run_still files root min was now is answers text steps =
     record { shown = ap meaning_of answers ∙ is.shown; text = text ∙ is.text; steps = steps ∙ is.steps }
-
-pub still_both : (files : List File) (root : List ℕ) (was mid now : Run) → mid.answers ≡ was.answers → mid.kept.text ≡ was.kept.text → mid.kept.steps ≡ was.kept.steps → IsStill files root mid now → IsStill files root was now
-still_both files root was mid now answers text steps is =
-    record { answers = is.answers ∙ answers; text = is.text ∙ text; steps = is.steps ∙ steps; texts = is.texts }
 
 pub asked_of_run : (h : Change) (was now : Run) (found : Option Style) → IsRunOf h.was.now h.root.now h.min was → now.answers ≡ was.answers → now.kept.text ≡ was.kept.text → now.kept.steps ≡ was.kept.steps → IfSome found (λ s. IsAskedOfKept h now.kept (program_of s)) → IfSome found (λ s. IsAskedOfRun h now (program_of s))
 asked_of_run h was now None is answers text steps asked = asked
@@ -111,7 +107,7 @@ module _ (h : Change) (run : Run) (p : Program) (known : IsAskedOfRun h run p) w
       ap (λ (m : Meaning). m.bbl) (is.shown ∙ sym (run_meaning was root h.min c asked.asked.style text p refl asked.asked.named asked.asked.styled.same asked.asked.styled.read))
       ∙ ap bbl_of (run_trace was root h.min c asked.asked.style text p refl asked.asked.named asked.asked.styled.same asked.asked.styled.read ∙ sym is.steps)
 
-  module _ (rest : AreOtherwise h.name.now was files) (law : DependsOnInput p) (new : NewRun) (walk : IsWalkFrom p run.kept new.place new.walk) (shows : AreShown run new.walk new.answers) where
+  module _ (rest : AreOtherwise h.name.now was files) (law : DependsOnInput p) (new : NewRun) (walk : IsWalkFrom p run.kept new.place new.walk) (shows : AreShown run new.walk new.answers) (part : IsPartOf new.part run.answers.bbl (bbl_of (with_steps run.kept.steps new.walk.steps))) where
     abbrev us : List Step
     us = with_steps run.kept.steps new.walk.steps
 
@@ -135,11 +131,11 @@ module _ (h : Change) (run : Run) (p : Program) (known : IsAskedOfRun h run p) w
         walked_trace was files root h.min c asked.asked.style p refl (sym asked.asked.same) asked.asked.named asked.asked.styled law new.place walk.d.key walk.d walk.read walk.only found
         run.kept.steps is.steps steps_of_style new.walk walked walk.through.ordered walk.through.sorted walk.through.goes
 
-    meaning_now : meaning_of new.answers ≡ meaning files root h.min
+    meaning_now : meaning_of (with_bbl_of us new.answers) ≡ meaning files root h.min
     meaning_now =
         walked_meaning was files root h.min c asked.asked.style p refl (sym asked.asked.same) asked.asked.named asked.asked.styled law new.place walk.d.key walk.d walk.read walk.only found
         run.kept.steps is.steps steps_of_style new.walk walked walk.through.ordered walk.through.sorted walk.through.goes
-        (meaning_of run.answers) (meaning_of new.answers) is.shown shows
+        (meaning_of run.answers) (meaning_of (with_bbl_of us new.answers)) is.shown shows
 
     put_so : IsPutBeside run.kept new.place new.walk
     put_so = record {
@@ -173,4 +169,4 @@ module _ (h : Change) (run : Run) (p : Program) (known : IsAskedOfRun h run p) w
         ∙ ap (λ (d : Citations). map (text_in files) d.databases) (sym asked.asked.same)
 
     pub is_new_run : IsNewRun h run new
-    is_new_run = record { put = put_so; shown = meaning_now; text = sym style_text_now; steps = trace_now; texts = texts_over; report = report_so }
+    is_new_run = record { put = put_so; part = part; shown = meaning_now; text = sym style_text_now; steps = trace_now; texts = texts_over; report = report_so }

@@ -1,13 +1,8 @@
 -- The places of a list, in order.
-use Rattle.std.specs.Prelude.{All, slice_index_or}
+use Rattle.std.specs.Prelude.{All}
 use Rattle.std.specs.List.{range_with_len}
-use Rattle.std.proofs.Common.{◌≡◌, refl, sym, ap, ◌∙◌, ℕ, zero, suc, ◌+◌, ◌<◌, List, [], ◌∷◌, ◌++◌, map, take, length, arith, add-one}
+use Rattle.std.proofs.Common.{◌≡◌, refl, sym, ap, ◌∙◌, ℕ, zero, suc, ◌+◌, ◌<◌, List, [], ◌∷◌, ◌++◌, arith, add-one}
 use Rattle.std.proofs.lemmas.List.Elements.{All-push, All-nil, All-cons}
-use Rattle.std.proofs.lemmas.List.{map-append, get_or_default, take_more}
-use Rattle.bt_actions.specs.declared.entry.Entry.{Entry}
-use Rattle.bt_actions.specs.World.{no_entry}
-use Rattle.bt_run.specs.SortCommand.{key_at}
-use Rattle.bt_run.specs.inner.Cases.{sort_key}
 use Rattle.bt_run.specs.inner.Course.{IsArranged}
 
 range_suc : (a n : ℕ) → range_with_len a (suc n) ≡ range_with_len a n ++ (a + n) ∷ []
@@ -40,14 +35,5 @@ arranged_range n = record { below = places_below n; sums = λ f. refl }
 pub arranged_none : IsArranged 0 []
 arranged_none = record { below = All-nil (λ n. n < 0); sums = λ f. refl }
 
--- one place more of an order, with what has it
-pub places_more : {X : Type 0} (f : X → ℕ) (these next : List X) (x : X) (order : List ℕ) (n d : ℕ) → n < length order → next ≡ these ++ x ∷ [] → f x ≡ slice_index_or order n d → map f these ≡ take n order → map f next ≡ take (n + 1) order
-places_more f these next x order n d lt more at is =
-    ap (map f) more ∙ map-append f these (x ∷ []) ∙ (λ j. is j ++ at j ∷ []) ∙ sym (take_more order n d lt)
-
 pub all_more : {X : Type 0} (P : X → Type 0) (these next : List X) (x : X) → next ≡ these ++ x ∷ [] → All P these → P x → All P next
 all_more P these next x more all here = rw more (All-push P these x all here)
-
--- the key of an entry at its place
-pub key_here : (entries : List Entry) (n : ℕ) (d e : Entry) (key : List ℕ) → n < length entries → key ≡ sort_key e → e ≡ slice_index_or entries n d → key ≡ key_at entries n
-key_here entries n d e key h is_key is_entry = is_key ∙ ap sort_key (is_entry ∙ get_or_default entries n d no_entry h)

@@ -2,7 +2,7 @@
 use Rattle.std.specs.Prelude.{slice_index_or, slice_set, sum}
 use Rattle.std.proofs.Common.{◌≡◌, ◌≢◌, refl, sym, ap, ◌∙◌, subst, ℕ, suc, ◌+◌, ◌-◌, ◌<◌, ◌≤◌, List, [], ◌∷◌, ◌++◌, length, map, take, drop, arith}
 use Rattle.std.proofs.lemmas.Grind.{flat_map-append}
-use Rattle.std.proofs.lemmas.List.{append_assoc, drop-append-le, drop-drop, drop_more, drop-map, drop_at, get_or-map, length-append, length-drop, length-map, length-set, length-take-le, map-set, set-get_or, set_comm, set_past, set_split, take-map, take_more, take-set-le, take_at}
+use Rattle.std.proofs.lemmas.List.{append-nil, append_assoc, drop-append-le, drop-drop, drop_more, drop-map, drop_at, get_or-map, length-append, length-drop, length-map, length-set, length-take-le, map-set, set-get_or, set_comm, set_past, set_split, take-append-drop, take-map, take_more, take-set-le, take-take, take_at}
 use Rattle.std.proofs.lemmas.List.Concat.{length-flat_map}
 use Rattle.std.proofs.lemmas.List.Sums.{sum-map}
 use Rattle.std.proofs.lemmas.Slice.{between_is}
@@ -90,6 +90,25 @@ told_anew log before told was now n is whole are =
 
 abbrev line : Step → List ℕ
 line s = lines_bytes s.outcome.lines
+
+-- the beginning of an old text, followed by new text
+
+take_on : (old : List ℕ) (from end : ℕ) → from ≤ end → take from old ++ take (end - from) (drop from old) ≡ take end old
+take_on old from end le =
+    ap (λ (t : List ℕ). take from old ++ t) (between_is old from end)
+    ∙ ap (λ (t : List ℕ). t ++ drop from (take end old)) (sym (take-take from end old le))
+    ∙ take-append-drop from (take end old)
+
+pub begun_at : (old text : List ℕ) (begin from end : ℕ) → begin ≡ from → from ≤ end → text ≡ [] → take end old ++ text ≡ take begin old ++ text ++ take (end - from) (drop from old)
+begun_at old text begin from end is le none =
+    let bare : (n : ℕ) → take n old ++ text ≡ take n old = λ n. ap (λ (t : List ℕ). take n old ++ t) none ∙ append-nil (take n old) in
+    bare end
+    ∙ sym (take_on old from end le)
+    ∙ ap (λ (t : List ℕ). t ++ take (end - from) (drop from old)) (ap (λ n. take n old) (sym is) ∙ sym (bare begin))
+
+pub with_line : (before text line more whole : List ℕ) → more ≡ text ++ line → before ++ text ≡ whole → before ++ more ≡ whole ++ line
+with_line before text line more whole is same =
+    ap (λ (t : List ℕ). before ++ t) is ∙ sym (append_assoc before text line) ∙ ap (λ (t : List ℕ). t ++ line) same
 
 -- the steps from a number on up to the next one that is put, and that one
 module _ (ss : List Step) (others : List NewStep) (i number : ℕ) (o : NewStep) (lt : i < length others) (at : o ≡ slice_index_or others i o) (numbered : AreNumbered number (length ss) (drop i others)) where

@@ -1,7 +1,7 @@
 -- Steps one after another, and what is known of the next one of an earlier run.
 use Rattle.std.specs.Prelude.{Contains, slice_get, drop, slice_index_or, sum_by, ◌⊎◌}
 use Rattle.std.specs.Option.{ForSome}
-use Rattle.std.proofs.Common.{◌≡◌, refl, sym, ap, ◌∙◌, subst, inl, inr, ℕ, zero, suc, ◌+◌, ◌<◌, ◌≤◌, List, [], ◌∷◌, ◌++◌, length, Option, Some, arith, add-one}
+use Rattle.std.proofs.Common.{◌≡◌, sym, ap, ◌∙◌, subst, inl, inr, ℕ, zero, suc, ◌+◌, ◌<◌, List, [], ◌∷◌, ◌++◌, length, Option, Some, arith, add-one}
 use Rattle.std.proofs.lemmas.List.{length-append}
 use Rattle.std.proofs.lemmas.List.Sums.{sum_by-append, sum_by-cons}
 use Rattle.std.proofs.lemmas.Option.{slice_get_within, get_or_from_slice_get}
@@ -78,12 +78,6 @@ drop_at zero (x ∷ xs) s h =
     ap (λ (y : Step). y ∷ xs) same
 drop_at (suc n) (x ∷ xs) s h = drop_at n xs s h
 
-drop_past : (n : ℕ) (xs : List Step) → length xs ≤ n → drop n xs ≡ []
-drop_past zero [] h = refl
-drop_past (suc n) [] h = refl
-drop_past zero (x ∷ xs) h = absurd (omega (arith, h))
-drop_past (suc n) (x ∷ xs) h = drop_past n xs (omega (arith, h))
-
 calls_more : (steps : List Step) (s : Step) (place : ℕ) → calls_at (steps ++ s ∷ []) place ≡ calls_at steps place + slice_index_or s.outcome.calls place 0
 calls_more steps s place =
     let calls : Step → ℕ = λ t. slice_index_or t.outcome.calls place 0 in
@@ -125,9 +119,3 @@ calls_begun earlier next steps calls first none are = λ c e place lt.
     let here : calls_at steps place ≡ 0 = ap (λ (ss : List Step). calls_at ss place) none in
     let all : calls_at (drop next earlier) place ≡ calls_at earlier place = ap (λ n. calls_at (drop n earlier) place) first in
     omega (arith, are c e place lt, here, all)
-
--- and at the end
-pub calls_ended : (earlier : List Step) (next : ℕ) (steps : List Step) (calls : List ℕ) → length earlier ≤ next → AreCallsFrom earlier next steps calls → AreCalls steps calls
-calls_ended earlier next steps calls past are = λ place lt.
-    let none : calls_at (drop next earlier) place ≡ 0 = ap (λ (ss : List Step). calls_at ss place) (drop_past next earlier past) in
-    omega (arith, are place lt, none)

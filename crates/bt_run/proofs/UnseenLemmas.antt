@@ -302,7 +302,3 @@ same_report was files root min run r is same is_report =
     in
     is_report
     ∙ (λ j. record { status = status j; ran = length (sym work j); reused = counted j; ticks = total_cost (sym work j) })
-
-pub run_passes : (was files : List File) (root : List ℕ) (min : ℕ) (run : Run) → IsRunOf was root min run → IsSameRun was files root min → IsRunOf files root min run
-run_passes was files root min run is same =
-    record { shown = is.shown ∙ sym same.shown; text = is.text ∙ sym same.text; steps = is.steps ∙ sym same.steps }

@@ -1,7 +1,5 @@
 -- Where SORT puts the entry of a run beside another, as the walk over its steps finds it.
 use Rattle.std.specs.Prelude.{slice_get, slice_index_or, slice_set}
-use Rattle.std.specs.Ordering.{is_lt, nat_cmp}
-use Rattle.std.specs.Cmp.Lexicographic.{slice_cmp}
 use Rattle.std.proofs.Common.{◌≡◌, refl, sym, ap, ◌∙◌, subst, inl, inr, ℕ, ◌+◌, ◌<◌, ◌≤◌, true, false, List, length, Some, arith}
 use Rattle.std.proofs.lemmas.Bool.{cases_eq, cases_lt}
 use Rattle.std.proofs.lemmas.Option.{slice_get-get_or}
@@ -82,17 +80,6 @@ step_read ss xs k s made same at here =
 pub step_here : (ss xs : List Step) (k : ℕ) (made : Step) → xs ≡ ss → k < length ss → made ≡ slice_index_or xs k made → slice_get ss k ≡ Some made
 step_here ss xs k made same within is =
     slice_get-get_or ss k made within ∙ ap (λ (ys : List Step). Some (slice_index_or ys k made)) (sym same) ∙ ap (λ (t : Step). Some t) (sym is)
-
-pub behind_by : (ss xs : List Step) (k i command : ℕ) (made : Step) (key : List ℕ) → xs ≡ ss → i + 1 ≡ k → slice_get xs i ≡ Some made → (made.command ≡ command → (e : Entry) → made.input.entry ≡ Some e → is_lt (slice_cmp nat_cmp (sort_key e) key) ≡ true) → IsBehind ss command k key
-behind_by ss xs k i command made key same before at less = λ j s e next here of entry.
-    let there : j ≡ i = omega (arith, next, before) in
-    let is : s ≡ made = step_read ss xs i s made same at (ap (slice_get ss) (sym there) ∙ here) in
-    less (ap (λ (t : Step). t.command) (sym is) ∙ of) e (ap (λ (t : Step). t.input.entry) (sym is) ∙ entry)
-
-pub before_by : (ss xs : List Step) (k command : ℕ) (made : Step) (key : List ℕ) → xs ≡ ss → slice_get xs (k + 1) ≡ Some made → (made.command ≡ command → (e : Entry) → made.input.entry ≡ Some e → is_lt (slice_cmp nat_cmp key (sort_key e)) ≡ true) → IsBefore ss command k key
-before_by ss xs k command made key same at less = λ s e here of entry.
-    let is : s ≡ made = step_read ss xs (k + 1) s made same at here in
-    less (ap (λ (t : Step). t.command) (sym is) ∙ of) e (ap (λ (t : Step). t.input.entry) (sym is) ∙ entry)
 
 pub place_same : (ss : List Step) (k : ℕ) (s : Step) (e old : Entry) → s.input.entry ≡ Some old → sort_key old ≡ sort_key e → HasItsPlace ss k s e
 place_same ss k s e old is same = record {

@@ -1,8 +1,9 @@
 //! The bibliography, which steps write line by line.
 
-ghost use Rattle.std.specs.Prelude.{◌≡◌, ◌++◌, ◌+◌, ◌≤◌, [], ◌∷◌, length, map, sum, IfOk, OnOk};
+ghost use Rattle.std.specs.Prelude.{◌≡◌, ◌++◌, ◌+◌, ◌-◌, ◌≤◌, [], ◌∷◌, drop, length, map, sum, take, IfOk, OnErr, OnOk};
 ghost use Rattle.bt_log.specs.Log.{lines_bytes};
 ghost use Rattle.bt_run.specs.inner.Cases.{bbl_of, bytes_written};
+ghost use Rattle.bt_run.specs.inner.Put.{IsPartOf};
 ghost use Rattle.bt_run.specs.inner.Walk.{AreNumbered, with_steps};
 
 use crate::course::Step;
@@ -10,6 +11,7 @@ use crate::kept::Kept;
 use crate::walk::NewStep;
 use bt_text::{Bytes, Sequence, Shared};
 use std::alloc::{AllocError, Global};
+use std::mem;
 
 fn write_line(text: &mut Bytes, line: &[u8]) -> Result<(), AllocError>
     ensures { OnOk result (text.new ≡ text.old ++ line.now ++ 10 ∷ []) }
@@ -113,29 +115,75 @@ fn room_for(steps: &[NewStep]) -> usize {
     room
 }
 
-/// The new run's bibliography: the old one, with what these steps write in the place of what the old steps wrote.
-pub fn new_bbl(
-    alloc: Global,
-    old: &[u8],
-    kept: &Kept,
-    others: &[NewStep],
-) -> Result<Bytes, AllocError>
-    requires old { old.now ≡ bbl_of kept.now.steps }
-    requires numbered { AreNumbered 0 (length kept.now.steps) others.now }
-    ensures { IfOk result (λ bbl. bbl ≡ bbl_of (with_steps kept.now.steps others.now)) }
-{
-    let lengths = kept.lengths.as_slice();
-    let len = old.len();
-    let mut bbl = Vec::with_capacity(alloc, len.saturating_add(room_for(others)))?;
-    let mut number: usize = 0;
-    let mut place: usize = 0;
-    'others: for other in others {
-        let end = end_of(place, &lengths[number..other.number], len);
-        bbl.extend_from_slice(&old[place..end])?;
-        push_lines(&mut bbl, other.step.outcome.lines.as_slice())?;
-        place = end + lengths[other.number];
-        number = other.number + 1;
+/// A change of the bibliography: bytes `begin..end` of the old one give way to `text`.
+#[derive(Drop)]
+pub struct NewPart {
+    pub begin: usize,
+    pub end: usize,
+    pub text: Vec<u8>,
+}
+
+impl NewPart {
+    /// Moves the part's end to `end`, and appends the old bytes that it passes. An empty part moves as a whole, so that it
+    /// doesn't begin with unchanged bytes.
+    fn extend_to(&mut self, old: &[u8], end: usize) -> Result<(), AllocError>
+        requires begin { self.old.begin ≤ self.old.end }
+        requires within { (self.old.end ≤ end) × (end ≤ length old.now) }
+        ensures begin { OnOk result (self.new.begin ≤ end) }
+        ensures end { OnOk result (self.new.end ≡ end) }
+        ensures text { OnOk result (take self.new.begin old.now ++ self.new.text.items
+            ≡ take self.old.begin old.now ++ self.old.text.items ++ take (end - self.old.end) (drop self.old.end old.now)) }
+    {
+        let from = mem::replace(&mut self.end, end);
+        if self.begin == from && self.text.is_empty() {
+            self.begin = end;
+            return Ok(());
+        }
+        self.text.extend_from_slice(&old[from..end])
     }
-    bbl.extend_from_slice(&old[place..])?;
-    Ok(Bytes::from_vec(bbl))
+
+    /// The part of the old bibliography that changes if `others` replace the steps of their numbers. It may contain unchanged
+    /// bytes. The only error is out of memory.
+    pub fn of(
+        alloc: Global,
+        old: &[u8],
+        kept: &Kept,
+        others: &[NewStep],
+    ) -> Result<NewPart, AllocError>
+        requires old { old.now ≡ bbl_of kept.now.steps }
+        requires numbered { AreNumbered 0 (length kept.now.steps) others.now }
+        ensures { IfOk result (λ part. IsPartOf part old.now (bbl_of (with_steps kept.now.steps others.now))) }
+    {
+        let lengths = kept.lengths.as_slice();
+        let len = old.len();
+        let text = Vec::with_capacity(alloc, room_for(others))?;
+        let mut part = NewPart {
+            begin: 0,
+            end: 0,
+            text,
+        };
+        let mut number: usize = 0;
+        'others: for other in others {
+            let end = end_of(part.end, &lengths[number..other.number], len);
+            part.extend_to(old, end)?;
+            push_lines(&mut part.text, other.step.outcome.lines.as_slice())?;
+            part.end = end + lengths[other.number];
+            number = other.number + 1;
+        }
+        Ok(part)
+    }
+
+    /// Puts it into the old bibliography. After out of memory the bibliography is as before.
+    pub fn put(self, alloc: Global, bbl: &mut Bytes) -> Result<(), AllocError>
+        requires within { (self.begin ≤ self.end) × (self.end ≤ length bbl.old) }
+        ensures ok { OnOk result (bbl.new ≡ take self.begin bbl.old ++ (self.text.items ++ drop self.end bbl.old)) }
+        ensures err { OnErr result (bbl.new ≡ bbl.old) }
+    {
+        let NewPart { begin, end, text } = self;
+        let mut bytes = mem::replace(bbl, Bytes::new(alloc)).into_vec();
+        let spliced = bytes.splice(begin..end, text);
+        *bbl = Bytes::from_vec(bytes);
+        drop(spliced?);
+        Ok(())
+    }
 }

@@ -1,25 +1,28 @@
 //! The new run, after an edit of which the style sees nothing or only one changed entry.
 //!
 //! In the first case it is the old run (`unseen.rt`). In the second it has the old steps, except those that the walk
-//! re-makes (`walk.rt`). All of it is made beside the old run, and then put in its place, which can't fail (`put.rt`).
+//! re-makes (`walk.rt`). All of it is made beside the old run. Then the new part of the bibliography is put into the old
+//! one; if there is no memory for it, nothing has changed. Last, the rest is put in place, which can't fail (`put.rt`).
 
-ghost use Rattle.std.specs.Prelude.{◌≡◌, ◌≤◌, None, IfErr, IfOk, IfSome, length};
+ghost use Rattle.std.specs.Prelude.{◌≡◌, ◌≤◌, None, IfErr, IfOk, IfSome, OnErr, OnOk, length};
 ghost use Rattle.bt_style.specs.Program.{program_of};
 ghost use Rattle.bt_run.specs.Kept.{report_after};
 ghost use Rattle.bt_run.specs.inner.Change.{IsAskedOfRun};
-ghost use Rattle.bt_run.specs.inner.Put.{GoesOver, IsPutBeside};
+ghost use Rattle.bt_run.specs.inner.Cases.{bbl_of};
+ghost use Rattle.bt_run.specs.inner.Put.{GoesOver, IsPartOf, IsPutBeside, with_bbl_of};
 ghost use Rattle.bt_run.specs.inner.Follow.{IsNewRun, IsReportOf, IsStill};
 ghost use Rattle.bt_run.specs.inner.Unseen.{AreOtherwise, AreTextsOf, IsRunOf};
 ghost use Rattle.bt_run.specs.inner.Walk.{with_steps};
 
 use crate::answers::{Answers, Report, Run};
+use crate::bibliography::NewPart;
 use crate::change::Change;
 use crate::kept_walk::PlacedWalk;
 use crate::walk::Walk;
 use bt_machine::step_depends_on_its_input;
 use bt_style::Style;
 use bt_text::Shared;
-use std::alloc::AllocError;
+use std::alloc::{AllocError, Global};
 use std::mem;
 
 /// The new run: the place of the changed entry, the steps, and what the run shows.
@@ -27,6 +30,8 @@ use std::mem;
 pub struct NewRun {
     pub place: usize,
     pub walk: Walk,
+    pub part: NewPart,
+    /// What else it shows; `bbl` is empty until `Run::put`.
     pub answers: Answers,
 }
 
@@ -53,34 +58,47 @@ impl Run {
         let Some(placed) = self.kept.walk(change.alloc, style)? else {
             return Ok(None);
         };
+        let others = placed.walk.steps.as_slice();
+        let part = NewPart::of(
+            change.alloc,
+            self.answers.bbl.as_slice(),
+            &self.kept,
+            others,
+        )?;
         let answers = self.new_answers(change.alloc, &placed.walk)?;
         let PlacedWalk { place, walk } = placed;
         Ok(Some(NewRun {
             place,
             walk,
+            part,
             answers,
         }))
     }
 
-    /// Puts the new run in the place of the old one.
-    fn put(&mut self, new: NewRun) -> Report
+    /// Puts the new run in the place of the old one. After out of memory nothing has changed.
+    fn put(&mut self, alloc: Global, new: NewRun) -> Result<Report, AllocError>
         requires put { IsPutBeside self.old.kept new.place new.walk }
         requires fewer { new.walk.reuse.ran ≤ length self.old.kept.steps }
-        ensures answers { self.new.answers ≡ new.answers }
-        ensures text { self.new.kept.text ≡ self.old.kept.text }
-        ensures steps { self.new.kept.steps ≡ with_steps self.old.kept.steps new.walk.steps }
-        ensures resolution { GoesOver self.old.kept.resolution self.new.kept.resolution }
-        ensures report { IsReportOf new (length self.old.kept.steps) result }
+        requires part { IsPartOf new.part self.old.answers.bbl (bbl_of (with_steps self.old.kept.steps new.walk.steps)) }
+        ensures answers { OnOk result (self.new.answers ≡ with_bbl_of (with_steps self.old.kept.steps new.walk.steps) new.answers) }
+        ensures text { OnOk result (self.new.kept.text ≡ self.old.kept.text) }
+        ensures steps { OnOk result (self.new.kept.steps ≡ with_steps self.old.kept.steps new.walk.steps) }
+        ensures resolution { OnOk result (GoesOver self.old.kept.resolution self.new.kept.resolution) }
+        ensures report { IfOk result (IsReportOf new (length self.old.kept.steps)) }
+        ensures err { OnErr result (self.new ≡ self.old) }
     {
         let NewRun {
             place,
             walk,
-            answers,
+            part,
+            mut answers,
         } = new;
+        part.put(alloc, &mut self.answers.bbl)?;
+        mem::swap(&mut answers.bbl, &mut self.answers.bbl);
         let report = Report::of(answers.status, self.kept.steps.as_slice(), &walk.reuse);
         self.kept.put(place, walk);
         drop(mem::replace(&mut self.answers, answers));
-        report
+        Ok(report)
     }
 
     /// Makes this the run of the files after a change, and returns its report, if the style sees nothing of the change or
@@ -109,7 +127,7 @@ impl Run {
         let Some(new) = self.new_run(change, &style)? else {
             return Ok(None);
         };
-        let report = self.put(new);
+        let report = self.put(change.alloc, new)?;
         Ok(Some(report))
     }
 }

@@ -1,18 +1,17 @@
 //! How the new run takes the place of the old one.
 //!
-//! What it shows is made first, beside the old answers. Then what is kept is changed in place, which can't fail.
+//! What it shows, except the bibliography (`bibliography.rt`), is made first, beside the old answers. Then what is kept is
+//! changed in place, which can't fail.
 
-ghost use Rattle.std.specs.Prelude.{◌≡◌, ◌++◌, ℕ, List, length, IfOk};
+ghost use Rattle.std.specs.Prelude.{◌≡◌, ◌++◌, ℕ, List, IfOk};
 ghost use Rattle.bt_log.specs.declared.message.Message.{Message as MessageSeen};
 ghost use Rattle.bt_run.specs.Counts.{counts_told};
 ghost use Rattle.bt_run.specs.inner.Calls.{AreCalls};
-ghost use Rattle.bt_run.specs.inner.Cases.{bbl_of};
 ghost use Rattle.bt_run.specs.inner.Put.{AreShown, GoesOver, IsPutBeside, with_lengths};
 ghost use Rattle.bt_run.specs.inner.Steps.{calls_in};
-ghost use Rattle.bt_run.specs.inner.Walk.{AreNumbered, with_steps};
+ghost use Rattle.bt_run.specs.inner.Walk.{with_steps};
 
 use crate::answers::{Answers, Run, show};
-use crate::bibliography::new_bbl;
 use crate::counts::{COUNT_LINES, Calls, tell_counts};
 use crate::course::Step;
 use crate::declarations::copied_texts;
@@ -21,7 +20,7 @@ use crate::kept_resolution::KeptResolution;
 use crate::start::shared_messages;
 use crate::walk::{NewStep, Walk};
 use bt_log::Message;
-use bt_text::{Sequence, Shared};
+use bt_text::{Bytes, Sequence, Shared};
 use std::alloc::{AllocError, Global};
 
 /// The new run's log, from the old one and the new calls.
@@ -36,18 +35,14 @@ fn log_with(alloc: Global, log: &[Message], calls: &Calls) -> Result<Sequence<Me
 }
 
 impl Run {
-    /// What the new run shows.
+    /// What the new run shows, without the bibliography.
     pub(crate) fn new_answers(&self, alloc: Global, walk: &Walk) -> Result<Answers, AllocError>
-        requires bbl { self.now.answers.bbl ≡ bbl_of self.now.kept.steps }
-        requires numbered { AreNumbered 0 (length self.now.kept.steps) walk.now.steps }
         requires calls { AreCalls (with_steps self.now.kept.steps walk.now.steps) walk.now.calls }
         ensures { IfOk result (AreShown self.now walk.now) }
     {
-        let others = walk.steps.as_slice();
-        let bbl = new_bbl(alloc, self.answers.bbl.as_slice(), &self.kept, others)?;
         let log = log_with(alloc, self.answers.messages.as_slice(), &walk.calls)?;
         let wanted = copied_texts(alloc, self.answers.wanted.as_slice())?;
-        let answers = show(alloc, bbl, log, wanted)?;
+        let answers = show(alloc, Bytes::new(alloc), log, wanted)?;
         Ok(answers)
     }
 }

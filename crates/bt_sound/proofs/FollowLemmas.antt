@@ -194,9 +194,6 @@ module _ (p : Program) (types : List ℕ) where
 
   -- bodies
 
-  pub follows_end : (ss : List State) → Follows p types End ss ss
-  follows_end ss = record { leads = lead_end p types ss }
-
   pub follows_then : (e : Element) (rest : Body) (ss ts us vs : List State) → Acts p types e ss ts → Covered ts us → Follows p types rest us vs → Follows p types (Then e rest) ss vs
   follows_then e rest ss ts us vs a c f =
       record { leads = lead_then p types e rest ss ts vs a.each (lead_more p types rest us ts vs vs (c.covers types) f.leads (same_in types vs)) }

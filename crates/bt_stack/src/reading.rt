@@ -129,6 +129,8 @@ pub fn equal(pool: &[u8], lower: Value, upper: Value) -> Option<bool>
 {
     match (lower, upper) {
         (Value::Number(n), Value::Number(m)) => Some(n == m),
+        // Only for speed: most comparisons are of two given texts.
+        (Value::Given(text), Value::Given(other)) => Some(text == other),
         _ => match (text_in(pool, lower), text_in(pool, upper)) {
             (Some(text), Some(other)) => Some(text == other),
             _ => None,

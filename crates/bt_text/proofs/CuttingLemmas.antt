@@ -1,12 +1,10 @@
 -- The pieces up to a number of text characters.
-use Rattle.std.proofs.Common.{◌≡◌, ℕ, zero, suc, ◌+◌, ◌-◌, ◌<◌, Bool, true, false, cond, eqb, List, [], ◌∷◌, ◌++◌, length, get_or, take, drop, map, flat_map, count_by, append_assoc, refl, sym, ap, ◌∙◌, arith}
-use Rattle.std.proofs.lemmas.List.{at_drop_more, take_more}
+use Rattle.std.proofs.Common.{◌≡◌, ℕ, zero, suc, ◌+◌, ◌-◌, Bool, true, false, cond, eqb, List, [], ◌∷◌, ◌++◌, length, take, drop, map, flat_map, count_by, append_assoc, refl, sym, ap, ◌∙◌, arith}
 use Rattle.std.proofs.lemmas.Bool.{eqb-true}
 use Rattle.std.proofs.lemmas.List.Sums.{sum_by-cons}
 use Rattle.bt_text.specs.Blocks.{blocks}
-use Rattle.bt_text.specs.ByteTests.{is_brace}
 use Rattle.bt_text.specs.Substrings.{first_characters}
-use Rattle.bt_text.specs.Pieces.{Piece, brace, bytes_of, is_character, other, pieces, block_pieces}
+use Rattle.bt_text.specs.Pieces.{Piece, bytes_of, is_character, pieces, block_pieces}
 use Rattle.bt_text.specs.inner.Cases.{single}
 
 pub first_none : (ps : List Piece) → first_characters 0 ps ≡ []
@@ -50,24 +48,8 @@ first_bytes_block out t new all k n left e f g h =
     let whole : first_bytes n (pieces t) ≡ first_bytes n ps ++ first_bytes (n - count_by is_character ps) qs = ap (λ bs. first_bytes n (flat_map block_pieces bs)) e ∙ ap (flat_map bytes_of) (first_characters-append n ps qs) ∙ flat_map_bytes-append (first_characters n ps) (first_characters (n - count_by is_character ps) qs) in
     append_assoc out new (first_bytes left qs) ∙ ap (λ l. out ++ (l ++ first_bytes left qs)) f ∙ ap (λ k. out ++ (first_bytes n ps ++ first_bytes k qs)) g ∙ ap (λ l. out ++ l) (sym whole) ∙ h
 
--- outside special characters, a byte at a time
-pub first_bytes_plain : (n b : ℕ) (t : List ℕ) → first_bytes (suc n) (map single (b ∷ t)) ≡ b ∷ first_bytes (cond (is_brace b) (suc n) n) (map single t)
-first_bytes_plain n b t = by_test (is_brace b)
-  where
-    by_test : (a : Bool) → flat_map bytes_of (cond a (brace b) (other b) ∷ first_characters (cond (is_character (cond a (brace b) (other b))) n (suc n)) (map single t)) ≡ b ∷ first_bytes (cond a (suc n) n) (map single t)
-    by_test true = refl
-    by_test false = refl
-
 pub first_bytes_none : (t : List ℕ) → first_bytes 0 (map single t) ≡ []
 first_bytes_none t = ap (flat_map bytes_of) (first_none (map single t))
-
--- the step of a loop over the bytes, at a brace and at another byte
-pub plain_step : (t : List ℕ) (i n : ℕ) (all : List ℕ) → i < length t → take i t ++ first_bytes (suc n) (map single (drop i t)) ≡ all → take (i + 1) t ++ first_bytes (cond (is_brace (get_or t i 0)) (suc n) n) (map single (drop (i + 1) t)) ≡ all
-plain_step t i n all h e =
-    let b = get_or t i 0 in
-    let rest = first_bytes (cond (is_brace b) (suc n) n) (map single (drop (i + 1) t)) in
-    let first = at_drop_more (λ l. first_bytes (suc n) (map single l)) t i 0 h ∙ first_bytes_plain n b (drop (i + 1) t) in
-    ap (λ l. l ++ rest) (take_more t i 0 h) ∙ append_assoc (take i t) (b ∷ []) rest ∙ ap (λ l. take i t ++ l) (sym first) ∙ e
 
 pub first_bytes_zero : (ps : List Piece) → first_bytes 0 ps ≡ []
 first_bytes_zero ps = ap (flat_map bytes_of) (first_none ps)

@@ -1,8 +1,7 @@
 -- Texts, each that is missing taken from others.
-use Rattle.std.proofs.Common.{◌≡◌, refl, ap, subst, ◌∙◌, inl, inr, ℕ, zero, suc, ◌+◌, ◌≤◌, Bool, true, false, arith, List, [], ◌∷◌, length, set, drop, replicate, get_or, Option, Some, None}
+use Rattle.std.proofs.Common.{◌≡◌, refl, ap, ◌∙◌, ℕ, zero, suc, ◌≤◌, Bool, true, false, arith, List, [], ◌∷◌, length, set, drop, replicate, get_or, Option, Some, None}
 use Rattle.std.specs.Prelude.{◌<◌, is_none, ◌&&◌}
 use Rattle.std.specs.List.{list_all}
-use Rattle.std.proofs.lemmas.Bool.{cases_lt}
 use Rattle.std.specs.Option.{option_or}
 use Rattle.bt_text.specs.Sparse.{filled_from}
 
@@ -89,12 +88,6 @@ filled_has_none (x ∷ xs) (y ∷ ys) le =
 
 abbrev pub AreAlike : ℕ → List Text → List Text → Type 0
 AreAlike n xs ys = (i : ℕ) → i < n → get_or xs i None ≡ get_or ys i None
-
-pub alike_more : (n : ℕ) (xs ys : List Text) → AreAlike n xs ys → get_or xs n None ≡ get_or ys n None → AreAlike (n + 1) xs ys
-alike_more n xs ys before here i lt = elim (cases_lt i n) [
-  | inl less ↦ before i less
-  | inr ge ↦ subst (λ (j : ℕ). get_or xs j None ≡ get_or ys j None) (omega (arith, ge, lt)) here
-]
 
 pub alike_are_same : (xs ys : List Text) → length xs ≡ length ys → AreAlike (length xs) xs ys → xs ≡ ys
 alike_are_same [] [] long alike = refl

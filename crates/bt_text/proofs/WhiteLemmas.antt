@@ -1,6 +1,5 @@
 -- Texts in which each run of white space is one space.
 use Rattle.std.proofs.Common.{◌≡◌, refl, ap, ◌∙◌, ℕ, ◌≤◌, ◌+◌, Bool, true, false, arith, List, [], ◌∷◌, ◌++◌, length, take, drop, get_or, if◌then◌else◌}
-use Rattle.std.specs.Prelude.{◌↔◌}
 use Rattle.std.proofs.lemmas.List.{length-append, take_all}
 use Rattle.bt_text.specs.ByteTests.{is_white, space}
 use Rattle.bt_text.specs.White.{begins_white, white_joined}
@@ -27,12 +26,6 @@ whole (x ∷ y ∷ piece) t b short is = absurd (omega (arith, short))
 
 pub joined_parts_of : (b : ℕ) (t : List ℕ) → white_joined (b ∷ t) ≡ b ∷ t → (joined_byte b t ≡ b ∷ []) × (white_joined t ≡ t)
 joined_parts_of b t is = whole (joined_byte b t) t b (byte_short (is_white b) (begins_white t) b) is
-
-pub joined_with : (b : ℕ) (t : List ℕ) → joined_byte b t ≡ b ∷ [] → (white_joined t ≡ t) ↔ (white_joined (b ∷ t) ≡ b ∷ t)
-joined_with b t stays = (
-  λ is. ap (λ (piece : List ℕ). piece ++ white_joined t) stays ∙ ap (λ (ts : List ℕ). b ∷ ts) is,
-  λ is. (joined_parts_of b t is).1,
-)
 
 -- a text that is its own joined one begins with a byte that stays
 pub first_stays : (t : List ℕ) (n : ℕ) → 1 ≤ length t → length t ≤ n + 1 → white_joined t ≡ t → joined_byte (get_or t 0 0) (take n (drop 1 t)) ≡ get_or t 0 0 ∷ []

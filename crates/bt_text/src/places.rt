@@ -1,9 +1,9 @@
 //! Texts in a list with their places.
 
-ghost use Rattle.std.specs.Prelude.{◌≡◌, ◌++◌, ◌↔◌, ℕ, IsTrue, length, replicate, is_none, slice_index_or, slice_set, Some, None, option_copied, IfOk, IfErr, OnOk, OnErr};
+ghost use Rattle.std.specs.Prelude.{◌≡◌, ◌++◌, ◌↔◌, ◌-◌, ◌<◌, ◌≤◌, ℕ, IsTrue, length, replicate, is_none, slice_index_or, slice_set, Some, None, option_copied, IfOk, IfErr, OnOk, OnErr};
 ghost use Rattle.std.specs.List.{list_all};
 ghost use Rattle.bt_text.specs.Sparse.{filled_from};
-ghost use Rattle.bt_text.specs.inner.Merging.{below, above, merged, same_present, same_text, IsGap, IsAt, IsInOrder};
+ghost use Rattle.bt_text.specs.inner.Merging.{below, above, merged, same_present, place_at, same_text, IsGap, IsAt, IsInOrder};
 
 use crate::bytes::Bytes;
 use crate::shared::Shared;
@@ -16,6 +16,8 @@ use std::marker::Model;
 pub struct PlacedTexts {
     /// How long the list is, with the texts that are missing.
     count: usize,
+    /// A bit for each of the first 64 places (the bits of a word) that has a text. It's only a hint: `search` checks it.
+    marks: u64,
     /// The texts that are there with their places, which rise.
     present: Vec<(usize, Shared<Bytes>)>,
 }
@@ -38,6 +40,7 @@ impl PlacedTexts {
     {
         PlacedTexts {
             count,
+            marks: 0,
             present: Vec::new(alloc),
         }
     }
@@ -70,7 +73,7 @@ impl PlacedTexts {
     pub fn get(&self, place: usize) -> Option<&Shared<Bytes>>
         ensures { option_copied result ≡ slice_index_or self.now place None }
     {
-        match search(self.present.as_slice(), place) {
+        match search(self.present.as_slice(), self.marks, place) {
             Ok(at) => Some(&self.present[at].1),
             Err(_) => None,
         }
@@ -84,7 +87,8 @@ impl PlacedTexts {
         if place >= self.count {
             return Ok(());
         }
-        match search(self.present.as_slice(), place) {
+        self.marks |= mark(place);
+        match search(self.present.as_slice(), self.marks, place) {
             Ok(at) => {
                 self.present[at] = (place, text);
                 Ok(())
@@ -96,8 +100,9 @@ impl PlacedTexts {
     fn clear(&mut self, place: usize)
         ensures { self.new ≡ slice_set self.old place None }
     {
-        if let Ok(at) = search(self.present.as_slice(), place) {
+        if let Ok(at) = search(self.present.as_slice(), self.marks, place) {
             self.present.remove(at);
+            self.marks &= !mark(place);
         }
     }
 
@@ -123,6 +128,7 @@ impl PlacedTexts {
         let present = copied(alloc, self.present.as_slice())?;
         Ok(PlacedTexts {
             count: self.count,
+            marks: self.marks,
             present,
         })
     }
@@ -135,6 +141,7 @@ impl PlacedTexts {
         let present = merged(alloc, self.count, texts, others.present.as_slice())?;
         Ok(PlacedTexts {
             count: self.count,
+            marks: self.marks | others.marks,
             present,
         })
     }
@@ -148,12 +155,46 @@ impl PlacedTexts {
     }
 }
 
-/// Where the text of a place is, or where it would go.
-fn search(present: &[(usize, Shared<Bytes>)], place: usize) -> Result<usize, usize>
+/// The bit of a place, if it is one of the first 64.
+fn mark(place: usize) -> u64 {
+    if place < 64 { 1 << place } else { 0 }
+}
+
+/// How many marks stand before a place, if it is one of the first 64.
+fn marks_before(marks: u64, place: usize) -> usize {
+    (marks & mark(place).wrapping_sub(1)).count_ones() as usize
+}
+
+fn is_after_others(present: &[(usize, Shared<Bytes>)], place: usize, at: usize) -> bool
+    requires { at ≤ length present.now }
+    ensures { IsTrue result → 0 < at → place_at present.now (at - 1) < place }
+{
+    at == 0 || present[at - 1].0 < place
+}
+
+fn is_before_others(present: &[(usize, Shared<Bytes>)], place: usize, at: usize) -> bool
+    requires { at ≤ length present.now }
+    ensures { IsTrue result → at < length present.now → place < place_at present.now at }
+{
+    at == present.len() || place < present[at].0
+}
+
+/// Where the text of a place is, or where it would go. The marks tell where, unless the place is a late one.
+fn search(present: &[(usize, Shared<Bytes>)], marks: u64, place: usize) -> Result<usize, usize>
     requires { IsInOrder present.now }
     ensures found { IfOk result (IsAt present.now place) }
     ensures absent { IfErr result (IsGap present.now place) }
 {
+    let guess = marks_before(marks, place);
+    if guess < present.len() && present[guess].0 == place {
+        return Ok(guess);
+    }
+    if guess <= present.len()
+        && is_after_others(present, place, guess)
+        && is_before_others(present, place, guess)
+    {
+        return Err(guess);
+    }
     present.binary_search_by_key(&place, |there| there.0)
 }
 

@@ -11,7 +11,6 @@ use Rattle.bt_bib.specs.Spot.{Here, after_byte}
 use Rattle.bt_bib.specs.Stop.{Stop, value_read, ◌>>=◌}
 use Rattle.bt_bib.specs.Values.{part, part_ends, value}
 use Rattle.bt_bib.specs.declared.aux_argument.AuxFault.{AuxFault}
-use Rattle.bt_bib.specs.declared.aux_argument.AuxFault.TheVariants.{StuffAfter}
 use Rattle.bt_bib.specs.declared.aux_line.AuxItem.{AuxItem}
 use Rattle.bt_bib.specs.declared.aux_line.Command.{Command}
 use Rattle.bt_bib.specs.declared.fault.ItemFault.{ItemFault}
@@ -78,11 +77,6 @@ string_read close h =
 -- `value }`, from the value on
 abbrev pub preamble_read : Closing → Here → Option (List Part) × Result Here Stop
 preamble_read close h = (let valued = value close h in (value_read valued, valued >>= λ v. after_closing close v.1))
-
--- a brace must be the last byte of its line
-abbrev pub stuff_after : List ℕ → Option AuxFault
-stuff_after [] = None
-stuff_after (b ∷ bs) = Some StuffAfter
 
 abbrev pub word_from : NameRole → Here → Option ℕ → Result (List ℕ × Here) Stop
 word_from what h None = Err (EndOfFile, h)

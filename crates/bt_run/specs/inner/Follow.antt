@@ -9,7 +9,8 @@ use Rattle.bt_run.specs.declared.follow.NewRun.{NewRun}
 use Rattle.bt_run.specs.Kept.{report_after, style_text}
 use Rattle.bt_run.specs.Meaning.{meaning, trace}
 use Rattle.bt_run.specs.Shown.{meaning_of}
-use Rattle.bt_run.specs.inner.Put.{GoesOver, IsPutBeside}
+use Rattle.bt_run.specs.inner.Cases.{bbl_of}
+use Rattle.bt_run.specs.inner.Put.{GoesOver, IsPartOf, IsPutBeside, with_bbl_of}
 use Rattle.bt_run.specs.inner.Unseen.{AreTextsOf}
 use Rattle.bt_run.specs.inner.Walk.{with_steps}
 
@@ -33,7 +34,8 @@ IsReportOf new count report =
 -- a new run is that of the new files
 pub record IsNewRun (h : Change) (run : Run) (new : NewRun) : Type 0 where
   pub put : IsPutBeside run.kept new.place new.walk
-  pub shown : meaning_of new.answers ≡ meaning h.files.now h.root.now h.min
+  pub part : IsPartOf new.part run.answers.bbl (bbl_of (with_steps run.kept.steps new.walk.steps))
+  pub shown : meaning_of (with_bbl_of (with_steps run.kept.steps new.walk.steps) new.answers) ≡ meaning h.files.now h.root.now h.min
   pub text : run.kept.text ≡ style_text h.files.now h.root.now
   pub steps : with_steps run.kept.steps new.walk.steps ≡ trace h.files.now h.root.now h.min
   pub texts : (now : Kept) → GoesOver run.kept.resolution now.resolution → AreTextsOf h.files.now h.root.now now

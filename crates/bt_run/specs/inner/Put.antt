@@ -1,5 +1,5 @@
 -- How the new run takes the place of the old one.
-use Rattle.std.specs.Prelude.{◌≡◌, ◌++◌, ◌<◌, ℕ, false, All, List, [], ◌∷◌, length, slice_set, bytes_eq, Ok, Option, Some}
+use Rattle.std.specs.Prelude.{◌≡◌, ◌++◌, ◌<◌, ◌≤◌, ℕ, false, All, List, [], ◌∷◌, drop, length, slice_set, take, bytes_eq, Ok, Option, Some}
 use Rattle.std.specs.Option.{ForSome, is_some}
 use Rattle.bt_style.specs.Program.{Program}
 use Rattle.bt_style.specs.Reader.{style_of}
@@ -7,6 +7,8 @@ use Rattle.bt_log.specs.declared.message.Message.{Message}
 use Rattle.bt_resolve.specs.declared.entry.Entry.{Entry as FoundEntry}
 use Rattle.bt_run.specs.declared.answers.Answers.{Answers}
 use Rattle.bt_run.specs.declared.answers.Run.{Run}
+use Rattle.bt_run.specs.declared.bibliography.NewPart.{NewPart}
+use Rattle.bt_run.specs.declared.course.Step.{Step}
 use Rattle.bt_run.specs.declared.kept.Kept.{Kept}
 use Rattle.bt_run.specs.declared.kept_resolution.KeptResolution.{KeptResolution}
 use Rattle.bt_run.specs.declared.walk.NewStep.{NewStep}
@@ -52,10 +54,20 @@ pub record IsPutBeside (kept : Kept) (place : ℕ) (w : Walk) : Type 0 where
   pub walked : IsWalkedOut p d.key first kept.steps w
   pub named : HaveDistinctNames (with_steps kept.steps w.steps)
 
--- what the new run shows: the log is the old one with the new counts
+-- one bibliography has this in the place of a part of the other
+pub record IsPartOf (part : NewPart) (old new : List ℕ) : Type 0 where
+  pub begin : part.begin ≤ part.end
+  pub end : part.end ≤ length old
+  pub whole : take part.begin old ++ (part.text.items ++ drop part.end old) ≡ new
+
+-- answers with the bibliography of these steps
+abbrev pub with_bbl_of : List Step → Answers → Answers
+with_bbl_of ss answers = record answers { bbl = bbl_of ss }
+
+-- what the new run shows, but for the bibliography: the log is the old one with the new counts
 abbrev pub AreShown : Run → Walk → Answers → Type 0
 AreShown run w answers =
     (before : List Message) (was : ℕ → ℕ) → run.answers.messages ≡ before ++ counts_told was →
-    meaning_of answers
+    meaning_of (with_bbl_of (with_steps run.kept.steps w.steps) answers)
     ≡ shown_of (bbl_of (with_steps run.kept.steps w.steps)) (before ++ counts_told (calls_at (with_steps run.kept.steps w.steps)))
     run.answers.wanted

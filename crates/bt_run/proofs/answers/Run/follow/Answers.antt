@@ -16,26 +16,31 @@ new_run-requires-clause-asked c =
     subst (λ (s : Style). IsAskedOfRun h run (program_of s)) (sym c.deref.ensures)
     (subst (λ (o : Option Style). IfSome o (λ s. IsAskedOfRun h run (program_of s))) c.in-Some-2.is c.in_ok-style.ensures.asked)
 
-pub put-report-requires-clause-put : goal.put-report-requires-clause-put
-put-report-requires-clause-put c =
+pub put-requires-clause-put : goal.put-requires-clause-put
+put-requires-clause-put c =
     let is = subst (λ (o : Option NewRun). IfSome o (IsNewRun c.args.change c.style_asked.new.self)) c.in-Some-3.is c.in_ok-new.ensures in
     is.put
 
-pub put-report-requires-clause-fewer : goal.put-report-requires-clause-fewer
-put-report-requires-clause-fewer c =
+pub put-requires-clause-fewer : goal.put-requires-clause-fewer
+put-requires-clause-fewer c =
     let is = subst (λ (o : Option NewRun). IfSome o (IsNewRun c.args.change c.style_asked.new.self)) c.in-Some-3.is c.in_ok-new.ensures in
     is.put.walked.fewer
+
+pub put-requires-clause-part : goal.put-requires-clause-part
+put-requires-clause-part c =
+    let is = subst (λ (o : Option NewRun). IfSome o (IsNewRun c.args.change c.style_asked.new.self)) c.in-Some-3.is c.in_ok-new.ensures in
+    is.part
 
 pub returns-clause-run : goal.returns-clause-run
 returns-clause-run c =
     let is = subst (λ (o : Option NewRun). IfSome o (IsNewRun c.args.change c.style_asked.new.self)) c.in-Some-3.is c.in_ok-new.ensures in
-    let put = c.put-report.ensures in
+    let put = c.in_ok-report-2.ensures in
     record { shown = ap meaning_of put.answers ∙ is.shown; text = put.text ∙ is.text; steps = put.steps ∙ is.steps }
 
 pub returns-clause-after : goal.returns-clause-after
 returns-clause-after c =
     let is = subst (λ (o : Option NewRun). IfSome o (IsNewRun c.args.change c.style_asked.new.self)) c.in-Some-3.is c.in_ok-new.ensures in
-    is.texts c.put-report.new.self.kept c.put-report.ensures.resolution
+    is.texts c.put.new.self.kept c.in_ok-report-2.ensures.resolution
 
 pub returns-clause-report : goal.returns-clause-report
 returns-clause-report c =
@@ -44,4 +49,4 @@ returns-clause-report c =
     let still = c.style_asked.ensures.still in
     let text = still.text ∙ c.follow_unseen.ensures.text in
     let steps = still.steps ∙ c.follow_unseen.ensures.steps in
-    is.report c.put-report.result c.put-report.ensures.report ∙ (λ j. report_after (text j) (steps j) h.files.now h.root.now h.min)
+    is.report c.in_ok-report-2.report c.in_ok-report-2.ensures.report ∙ (λ j. report_after (text j) (steps j) h.files.now h.root.now h.min)
