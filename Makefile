@@ -1,7 +1,7 @@
 # make build      proves everything and builds the programs, and says how long it has still to go
 #                 (JOBS=N: N crates at a time)
 # make run        shows the bibliography of the paper in examples/: by the built program, or, where it isn't built, unproved
-# make test       the gate: every proof from nothing, the edits that must be refused, the tests, the built program's output
+# make test       the gate: every proof from nothing, new edits that must be refused, the tests, the built program's output
 # make install    puts bibtex, bibtex-check, bibtex-why and bibtex-lsp into PREFIX/bin, and its parts into PREFIX/lib and PREFIX/share (PREFIX=/usr/local; DESTDIR goes before it)
 # make uninstall  removes exactly what `make install` put there
 # make deb        builds the Debian package out/dulshenko_VERSION_ARCH.deb from the built programs, and needs dpkg-deb
