@@ -3,8 +3,7 @@
 //! A group is appended straight to the buffer. Its end may still change: a tie there is removed, or becomes a space. So
 //! contracts speak of the bytes from the group's start on, which is `start`.
 
-ghost use Rattle.std.specs.Prelude.{◌≡◌, ◌≤◌, ◌++◌, ◌==◌, ◌||◌, false, if◌then◌else◌, IfOk, OnOk, length, take, drop, map};
-ghost use Rattle.std.specs.List.{suffix_len};
+ghost use Rattle.std.specs.Prelude.{◌≡◌, ◌≤◌, ◌++◌, ◌==◌, ◌||◌, false, if◌then◌else◌, IsTrue, OnOk, length, take, drop, map};
 ghost use Rattle.bt_text.specs.ByteTests.{is_separator, space, tie};
 ghost use Rattle.bt_names.specs.Groups.{ends_in_tie, group_finished};
 ghost use Rattle.bt_text.specs.Length.{text_length_of};
@@ -59,16 +58,14 @@ fn spelling<'a>(is_whole: bool, token: &LentToken<'a>) -> &'a [u8]
     }
 }
 
-fn trailing_ties(text: &[u8]) -> usize
-    ensures { result ≡ suffix_len (λ b. b == tie) text.now }
-{
-    text.iter().rev().take_while(|byte| **byte == b'~').count()
-}
-
+#[tactic(auto, using(crate::proofs::GroupLemmas::ends_in_last, crate::proofs::GroupLemmas::ends_in_none))]
 fn ends_in_tie(text: &[u8]) -> bool
     ensures { result ≡ ends_in_tie text.now }
 {
-    0 < trailing_ties(text)
+    match text.last() {
+        None => false,
+        Some(byte) => *byte == b'~',
+    }
 }
 
 fn is_short(text: &[u8]) -> bool
@@ -79,16 +76,15 @@ fn is_short(text: &[u8]) -> bool
 
 /// If the group that begins at `start` ends in two ties, one is removed. A single tie becomes a space if 3 text
 /// characters come before it in the group.
+#[inline(never)]
 #[tactic(auto, using(crate::proofs::GroupLemmas::tail_cut, crate::proofs::GroupLemmas::tail_set))]
-pub fn finish(out: &mut Vec<u8>, start: usize)
-    requires { start ≤ length out.old.items }
+fn finish_tie(out: &mut Vec<u8>, start: usize)
+    requires within { start ≤ length out.old.items }
+    requires tie { IsTrue (ends_in_tie (drop start out.old.items)) }
     ensures front { take start out.new.items ≡ take start out.old.items }
     ensures group { drop start out.new.items ≡ group_finished (drop start out.old.items) }
 {
     let (_, group) = out.as_slice().split_at(start);
-    if !ends_in_tie(group) {
-        return;
-    }
     let len = group.len().saturating_sub(1);
     let (front, _) = group.split_at(len);
     if ends_in_tie(front) {
@@ -98,6 +94,19 @@ pub fn finish(out: &mut Vec<u8>, start: usize)
         if last < out.len() {
             out[last] = b' ';
         }
+    }
+}
+
+/// Settles a tie at the end of the group that begins at `start`, if there is one. Most groups have none, so that is tested
+/// first.
+pub fn finish(out: &mut Vec<u8>, start: usize)
+    requires { start ≤ length out.old.items }
+    ensures front { take start out.new.items ≡ take start out.old.items }
+    ensures group { drop start out.new.items ≡ group_finished (drop start out.old.items) }
+{
+    let (_, group) = out.as_slice().split_at(start);
+    if ends_in_tie(group) {
+        finish_tie(out, start);
     }
 }
 
