@@ -17,13 +17,13 @@ all_cons P x xs first rest zero d h = first
 all_cons P x xs first rest (suc k) d h = rest k d (omega (arith, h))
 
 -- equal at each element that fits
-map_same : {X Y : Type 0} (P : X → Type 0) (f g : X → Y) (xs : List X) → ((x : X) → P x → f x ≡ g x) → All P xs → map f xs ≡ map g xs
+pub map_same : {X Y : Type 0} (P : X → Type 0) (f g : X → Y) (xs : List X) → ((x : X) → P x → f x ≡ g x) → All P xs → map f xs ≡ map g xs
 map_same P f g [] same all = refl
 map_same P f g (x ∷ xs) same all =
     let rest : map f xs ≡ map g xs = map_same P f g xs same (all_next P x xs all) in
     λ i. same x (all 0 x (omega arith)) i ∷ rest i
 
-part_grows : (pool more : List ℕ) (start count : ℕ) → start + count ≤ length pool → part (pool ++ more) start count ≡ part pool start count
+pub part_grows : (pool more : List ℕ) (start count : ℕ) → start + count ≤ length pool → part (pool ++ more) start count ≡ part pool start count
 part_grows pool more start count inside =
     ap (take count) (drop-append-le start pool more (omega (arith, inside)))
     ∙ take-append-le count (drop start pool) more (omega (arith, inside, length-drop start pool))

@@ -5,7 +5,7 @@ use Rattle.bt_actions.specs.Item.{Txt}
 use Rattle.bt_stack.specs.declared.value.Value.{Value}
 use Rattle.bt_stack.specs.declared.value.Value.TheVariants as value
 use Rattle.bt_stack.specs.declared.step_variables.StepVariables.{StepVariables}
-use Rattle.bt_stack.specs.inner.Kept.{part, item_in, text_over, texts_over, numbers_over, Fits, AllFit, desk, IsSound}
+use Rattle.bt_stack.specs.inner.Kept.{part, item_in, text_over, texts_over, values_over, Fits, AllFit, desk, IsSound}
 use Rattle.bt_stack.specs.inner.Moved.{made_len, made_part, made_size, made_bytes, placed, moved}
 use Rattle.bt_stack.proofs.GrowLemmas.{all_next, all_cons}
 
@@ -137,7 +137,7 @@ compacted pool pool₁ pool₂ pool' vs vs' g g' o o' a b sound is_first is_seco
       };
       same = λ k. record {
         items = reverse (values k);
-        globals = record { numbers = numbers_over (g_numbers k) (g_given k).now.numbers; texts = globals k };
-        own = record { numbers = numbers_over (o_numbers k) (o_given k).now.numbers; texts = own k };
+        globals = record { numbers = values_over (g_numbers k) (g_given k).now.numbers; texts = globals k };
+        own = record { numbers = values_over (o_numbers k) (o_given k).now.numbers; texts = own k };
       };
     }

@@ -11,10 +11,10 @@ use Rattle.bt_actions.specs.Assignment.{with_text}
 use Rattle.bt_stack.specs.declared.value.Value.{Value}
 use Rattle.bt_stack.specs.declared.value.Value.TheVariants as value
 use Rattle.bt_stack.specs.Desk.{short}
-use Rattle.bt_stack.specs.inner.Kept.{part, item_in, text_over, bytes_in, is_text, text_value, texts_over, own_of, number_over, numbers_over, Fits}
+use Rattle.bt_stack.specs.inner.Kept.{part, item_in, text_over, bytes_in, is_text, text_value, texts_over, own_of, value_over, values_over, Fits}
 
 -- a variable that there isn't
-pub numbers_none : (ns : List (Option ℤ)) (zs : List ℤ) (n : ℕ) (d : ℤ) → None ≡ slice_get zs n → d ≡ get_or (numbers_over ns zs) n d
+pub numbers_none : (ns : List (Option ℤ)) (zs : List ℤ) (n : ℕ) (d : ℤ) → None ≡ slice_get zs n → d ≡ get_or (values_over ns zs) n d
 numbers_none [] [] n d e = refl
 numbers_none [] (z ∷ zs) zero d e = absurd (none-some z e)
 numbers_none [] (z ∷ zs) (suc n) d e = numbers_none [] zs n d e
@@ -22,39 +22,39 @@ numbers_none (m ∷ ns) [] n d e = refl
 numbers_none (m ∷ ns) (z ∷ zs) zero d e = absurd (none-some z e)
 numbers_none (m ∷ ns) (z ∷ zs) (suc n) d e = numbers_none ns zs n d e
 
-pub numbers_at : (ns : List (Option ℤ)) (zs : List ℤ) (n : ℕ) (z d : ℤ) → Some z ≡ slice_get zs n → number_over (own_of (slice_get ns n)) z ≡ get_or (numbers_over ns zs) n d
+pub numbers_at : (ns : List (Option ℤ)) (zs : List ℤ) (n : ℕ) (z d : ℤ) → Some z ≡ slice_get zs n → value_over (own_of (slice_get ns n)) z ≡ get_or (values_over ns zs) n d
 numbers_at [] zs n z d e = sym (get_or_from_slice_get zs n z d (sym e))
 numbers_at (k ∷ ns) [] n z d e = absurd (none-some z (sym e))
-numbers_at (k ∷ ns) (y ∷ zs) zero z d e = ap (number_over k) (same_Some z y e)
+numbers_at (k ∷ ns) (y ∷ zs) zero z d e = ap (value_over k) (same_Some z y e)
 numbers_at (k ∷ ns) (y ∷ zs) (suc n) z d e = numbers_at ns zs n z d e
 
 -- the number of a variable, as it is read
-pub number_is : (ns : List (Option ℤ)) (zs : List ℤ) (n : ℕ) (o : Option ℤ) (z y r q d : ℤ) → q ≡ r → r ≡ number_over o y → y ≡ z → o ≡ own_of (slice_get ns n) → Some z ≡ slice_get zs n → q ≡ get_or (numbers_over ns zs) n d
+pub number_is : (ns : List (Option ℤ)) (zs : List ℤ) (n : ℕ) (o : Option ℤ) (z y r q d : ℤ) → q ≡ r → r ≡ value_over o y → y ≡ z → o ≡ own_of (slice_get ns n) → Some z ≡ slice_get zs n → q ≡ get_or (values_over ns zs) n d
 number_is ns zs n o z y r q d is_returned is_result same is_own is_given =
-    is_returned ∙ is_result ∙ (λ i. number_over (is_own i) (same i)) ∙ numbers_at ns zs n z d is_given
+    is_returned ∙ is_result ∙ (λ i. value_over (is_own i) (same i)) ∙ numbers_at ns zs n z d is_given
 
 -- one place more, which holds no value
-pub numbers_padded : (ns : List (Option ℤ)) (zs : List ℤ) → numbers_over (ns ++ None ∷ []) zs ≡ numbers_over ns zs
+pub numbers_padded : (ns : List (Option ℤ)) (zs : List ℤ) → values_over (ns ++ None ∷ []) zs ≡ values_over ns zs
 numbers_padded [] [] = refl
 numbers_padded [] (z ∷ zs) = refl
 numbers_padded (m ∷ ns) [] = refl
-numbers_padded (m ∷ ns) (z ∷ zs) = ap (λ l. number_over m z ∷ l) (numbers_padded ns zs)
+numbers_padded (m ∷ ns) (z ∷ zs) = ap (λ l. value_over m z ∷ l) (numbers_padded ns zs)
 
-pub numbers_set : (ns : List (Option ℤ)) (zs : List ℤ) (n : ℕ) (z : ℤ) → n < length ns → numbers_over (set ns n (Some z)) zs ≡ set (numbers_over ns zs) n z
+pub numbers_set : (ns : List (Option ℤ)) (zs : List ℤ) (n : ℕ) (z : ℤ) → n < length ns → values_over (set ns n (Some z)) zs ≡ set (values_over ns zs) n z
 numbers_set [] zs n z h = absurd (omega (arith, h))
 numbers_set (m ∷ ns) [] zero z h = refl
 numbers_set (m ∷ ns) [] (suc n) z h = refl
 numbers_set (m ∷ ns) (y ∷ zs) zero z h = refl
-numbers_set (m ∷ ns) (y ∷ zs) (suc n) z h = ap (λ l. number_over m y ∷ l) (numbers_set ns zs n z (omega (arith, h)))
+numbers_set (m ∷ ns) (y ∷ zs) (suc n) z h = ap (λ l. value_over m y ∷ l) (numbers_set ns zs n z (omega (arith, h)))
 
 -- no variable is set after the last one
-pub numbers_past : (ns : List (Option ℤ)) (zs : List ℤ) (n : ℕ) (z : ℤ) → length zs ≤ n → numbers_over ns zs ≡ set (numbers_over ns zs) n z
+pub numbers_past : (ns : List (Option ℤ)) (zs : List ℤ) (n : ℕ) (z : ℤ) → length zs ≤ n → values_over ns zs ≡ set (values_over ns zs) n z
 numbers_past [] [] n z h = refl
 numbers_past [] (y ∷ zs) zero z h = absurd (omega (arith, h))
 numbers_past [] (y ∷ zs) (suc n) z h = ap (λ l. y ∷ l) (numbers_past [] zs n z (omega (arith, h)))
 numbers_past (m ∷ ns) [] n z h = refl
 numbers_past (m ∷ ns) (y ∷ zs) zero z h = absurd (omega (arith, h))
-numbers_past (m ∷ ns) (y ∷ zs) (suc n) z h = ap (λ l. number_over m y ∷ l) (numbers_past ns zs n z (omega (arith, h)))
+numbers_past (m ∷ ns) (y ∷ zs) (suc n) z h = ap (λ l. value_over m y ∷ l) (numbers_past ns zs n z (omega (arith, h)))
 
 -- the same of texts
 pub texts_none : (pool : List ℕ) (vs : List Value) (ts : List (List ℕ)) (n : ℕ) → None ≡ slice_get ts n → [] ≡ get_or (texts_over pool vs ts) n []

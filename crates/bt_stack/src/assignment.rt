@@ -100,6 +100,7 @@ fn assign_entry_number(state: &mut State, n: usize) -> Result<(), AllocError>
 }
 
 /// The same of a text variable of the step's entry.
+#[inline(always)]
 fn assign_entry_text(state: &mut State, n: usize) -> Result<(), AllocError>
     requires { 0 < length state.old.stack.items }
     ensures { OnOk result (world_of state.new ≡ value_given (target.EntryText n) (world_of state.old)) }

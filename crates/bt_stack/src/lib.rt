@@ -22,6 +22,7 @@ mod state;
 mod step_variables;
 mod table;
 mod texts;
+mod texts_left;
 mod value;
 mod variables_left;
 

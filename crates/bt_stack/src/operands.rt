@@ -163,6 +163,7 @@ pub fn duplicate(state: &mut State) -> Result<Flow, AllocError>
 }
 
 /// `pop$`.
+#[inline(always)]
 pub fn pop(state: &mut State) -> Result<Flow, AllocError>
     ensures { IfOk result (Acts (λ world. Goes (popped world).1) state.old state.new) }
 {

@@ -3,7 +3,7 @@
 
 ghost use Rattle.std.specs.Prelude.{◌≡◌, ◌<◌, ℕ, ℤ, List, [], pos, length, slice_get, slice_index_or, slice_set, option_map, option_and_then, true, IfSome, OnOk, OnErr};
 ghost use Rattle.bt_stack.specs.Desk.{short};
-ghost use Rattle.bt_stack.specs.inner.Kept.{item_in, bytes_in, is_text, text_value, Fits, AllFit, texts_over, own_of, number_over, numbers_over};
+ghost use Rattle.bt_stack.specs.inner.Kept.{item_in, bytes_in, is_text, text_value, Fits, AllFit, texts_over, own_of, value_over, values_over};
 
 use crate::reading::text_value;
 use crate::value::Value;
@@ -26,7 +26,7 @@ pub struct StepVariables<'a> {
 
 /// The number that the step gave to a variable, or else the one that it was given.
 fn number_over(own: Option<i32>, given: i32) -> i32
-    ensures { result ≡ number_over own given }
+    ensures { result ≡ value_over own given }
 {
     match own {
         Some(number) => number,
@@ -47,7 +47,7 @@ pub fn own_number(numbers: &[Option<i32>], n: usize) -> Option<i32>
 /// The number of a variable, or 0 if there is no such variable.
 #[tactic(auto, using(crate::proofs::VariableLemmas::numbers_none))]
 pub fn number_of(numbers: &[Option<i32>], given: &Values<i32>, n: usize) -> i32
-    ensures { result ≡ slice_index_or (numbers_over numbers.now given.now) n (pos 0) }
+    ensures { result ≡ slice_index_or (values_over numbers.now given.now) n (pos 0) }
 {
     match given.get(n) {
         None => 0,
@@ -118,7 +118,7 @@ fn make_number_place(
     n: usize,
 ) -> Result<(), AllocError>
     ensures there { OnOk result (n < length numbers.new.items) }
-    ensures same { (zs : List ℤ) → numbers_over numbers.new.items zs ≡ numbers_over numbers.old.items zs }
+    ensures same { (zs : List ℤ) → values_over numbers.new.items zs ≡ values_over numbers.old.items zs }
 {
     make_room(numbers, count)?;
     'numbers: while numbers.len() <= n {
@@ -137,8 +137,8 @@ pub fn set_number(
     number: i32,
 ) -> Result<(), AllocError>
     ensures ok { OnOk result ((zs : List ℤ) → length zs ≡ count
-        → numbers_over numbers.new.items zs ≡ slice_set (numbers_over numbers.old.items zs) n number) }
-    ensures err { OnErr result ((zs : List ℤ) → numbers_over numbers.new.items zs ≡ numbers_over numbers.old.items zs) }
+        → values_over numbers.new.items zs ≡ slice_set (values_over numbers.old.items zs) n number) }
+    ensures err { OnErr result ((zs : List ℤ) → values_over numbers.new.items zs ≡ values_over numbers.old.items zs) }
 {
     if n >= numbers.len() {
         if n >= count {

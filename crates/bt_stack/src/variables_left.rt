@@ -5,48 +5,15 @@
 //! If the given variables have no other owner by then, the second stage writes the new values into them. Otherwise it
 //! writes them into a copy.
 
-ghost use Rattle.std.specs.Prelude.{◌≡◌, length, map, IfOk, OnOk};
-ghost use Rattle.bt_actions.specs.Arguments.{as_text};
-ghost use Rattle.bt_stack.specs.inner.Kept.{item_in, Fits, AllFit, numbers_over, put};
-ghost use Rattle.bt_stack.specs.inner.Left.{copies_over, copies_of};
+ghost use Rattle.std.specs.Prelude.{◌≡◌, option_copied, IfOk, OnOk};
+ghost use Rattle.bt_stack.specs.inner.Kept.{values_over, put};
 
-use crate::reading::text_in;
 use crate::step_variables::{StepVariables, own_number};
-use crate::value::Value;
+use crate::texts_left::TextsLeft;
 use bt_actions::Variables;
 use bt_text::{Bytes, Shared, Values};
 use std::alloc::{AllocError, Global};
 use std::marker::Model;
-
-/// A copy of a value, if it is a text.
-fn text_copied(alloc: Global, pool: &[u8], value: Value) -> Result<Option<Bytes>, AllocError>
-    requires { Fits (length pool.now) value }
-    ensures { IfOk result (λ copy. copy ≡ as_text (item_in pool.now value.entry)) }
-{
-    match text_in(pool, value) {
-        None => Ok(None),
-        Some(text) => {
-            let copy = Bytes::copied(alloc, text)?;
-            Ok(Some(copy))
-        }
-    }
-}
-
-/// Copies of the values that are texts.
-fn texts_copied(
-    alloc: Global,
-    pool: &[u8],
-    values: &[Value],
-) -> Result<Vec<Option<Bytes>>, AllocError>
-    requires { AllFit (length pool.now) values.now }
-    ensures { IfOk result (λ copies. copies.items ≡ copies_of pool.now values.now) }
-{
-    let mut copies = Vec::with_capacity(alloc, values.len())?;
-    'values: for value in values {
-        copies.push(text_copied(alloc, pool, *value)?)?;
-    }
-    Ok(copies)
-}
 
 /// Puts a number in its place, if the step gave one.
 fn put_number(
@@ -64,13 +31,13 @@ fn put_number(
 }
 
 /// Puts the numbers that the step gave over others.
-#[tactic(auto, using(crate::proofs::LeftLemmas::numbers_next))]
+#[tactic(auto, using(crate::proofs::LeftLemmas::values_next))]
 fn put_numbers(
     alloc: Global,
     numbers: &[Option<i32>],
     left: &mut Values<i32>,
 ) -> Result<(), AllocError>
-    ensures { OnOk result (left.new ≡ numbers_over numbers.now left.old) }
+    ensures { OnOk result (left.new ≡ values_over numbers.now left.old) }
 {
     'numbers: for n in 0..numbers.len() {
         put_number(alloc, own_number(numbers, n), left, n)?;
@@ -78,49 +45,32 @@ fn put_numbers(
     Ok(())
 }
 
-fn is_empty_at(left: &Values<Shared<Bytes>>, n: usize) -> bool {
-    match left.get(n) {
-        None => false,
-        Some(text) => text.len() == 0,
-    }
-}
-
-/// Puts a text in its place, if the step gave one. An empty text is usually the one that all variables start with. It has
-/// other owners, so it is replaced, not written over.
+/// Puts a text in its place, if the step gave one.
 fn put_text(
     alloc: Global,
-    copy: Option<Bytes>,
+    text: Option<&[u8]>,
     left: &mut Values<Shared<Bytes>>,
     n: usize,
 ) -> Result<(), AllocError>
-    ensures { OnOk result (left.new ≡ put copy n left.old) }
+    ensures { OnOk result (left.new ≡ put (option_copied text.entry) n left.old) }
 {
-    match copy {
+    match text {
         None => Ok(()),
-        Some(text) => {
-            if is_empty_at(left, n) {
-                let text = Shared::new(alloc, text)?;
-                left.set(alloc, n, text)
-            } else {
-                left.write(alloc, n, text.as_slice())
-            }
-        }
+        Some(text) => left.write(alloc, n, text),
     }
 }
 
 /// Puts the texts that the step gave over others.
-#[tactic(auto, using(crate::proofs::LeftLemmas::copies_more))]
+#[tactic(auto, using(crate::proofs::LeftLemmas::values_next))]
 fn put_texts(
     alloc: Global,
-    copies: Vec<Option<Bytes>>,
+    texts: &TextsLeft,
     left: &mut Values<Shared<Bytes>>,
 ) -> Result<(), AllocError>
-    ensures { OnOk result (left.new ≡ copies_over copies.items left.old) }
+    ensures { OnOk result (left.new ≡ values_over texts.now left.old) }
 {
-    let mut n = 0;
-    'copies: for copy in copies {
-        put_text(alloc, copy, left, n)?;
-        n += 1;
+    'texts: for n in 0..texts.len() {
+        put_text(alloc, texts.get(n), left, n)?;
     }
     Ok(())
 }
@@ -145,7 +95,7 @@ fn owned(alloc: Global, given: Shared<Variables>) -> Result<Variables, AllocErro
 pub struct VariablesLeft {
     given: Shared<Variables>,
     numbers: Vec<Option<i32>>,
-    texts: Vec<Option<Bytes>>,
+    texts: TextsLeft,
 }
 
 impl Model for VariablesLeft {
@@ -154,16 +104,17 @@ impl Model for VariablesLeft {
 
     ghost Value = { Variables };
 
-    ghost view = { λ left. variables_left left.numbers.items left.texts.items left.given };
+    ghost view = { λ left. variables_left left.numbers.items left.texts left.given };
 }
 
 impl VariablesLeft {
     ghost use Rattle.std.specs.Prelude.{◌≡◌, length, IfOk};
     ghost use Rattle.bt_stack.specs.inner.Kept.{AllFit, variables_in};
 
-    /// A step's variables with these numbers, which the step gave.
+    /// A step's variables with these numbers, which the step gave. Its texts are copied to a page.
     pub fn of(
         alloc: Global,
+        page: Vec<u8>,
         pool: &[u8],
         numbers: Vec<Option<i32>>,
         variables: &StepVariables,
@@ -171,7 +122,7 @@ impl VariablesLeft {
         requires { AllFit (length pool.now) variables.now.texts.items }
         ensures { IfOk result (λ left. left ≡ variables_in pool.now (record variables.now { numbers = numbers })) }
     {
-        let texts = texts_copied(alloc, pool, &variables.texts)?;
+        let texts = TextsLeft::of(alloc, page, pool, &variables.texts)?;
         let given = variables.given.share()?;
         Ok(VariablesLeft {
             given,
@@ -189,12 +140,12 @@ impl VariablesLeft {
             numbers,
             texts,
         } = self;
-        if numbers.is_empty() && texts.is_empty() {
+        if numbers.is_empty() && texts.len() == 0 {
             return Ok(given);
         }
         let mut left = owned(alloc, given)?;
         put_numbers(alloc, &numbers, &mut left.numbers)?;
-        put_texts(alloc, texts, &mut left.texts)?;
+        put_texts(alloc, &texts, &mut left.texts)?;
         Shared::new(alloc, left)
     }
 }

@@ -1,5 +1,5 @@
 -- What the kept values are as items, and which of them can be read in a pool.
-use Rattle.std.specs.Prelude.{◌≡◌, ℕ, ℤ, Bool, true, false, ◌+◌, ◌≤◌, List, [], ◌∷◌, ◌++◌, length, take, drop, map, reverse, slice_set, Option, Some, None, if◌then◌else◌}
+use Rattle.std.specs.Prelude.{◌≡◌, ℕ, Bool, true, false, ◌+◌, ◌≤◌, List, [], ◌∷◌, ◌++◌, length, take, drop, map, reverse, slice_set, Option, Some, None, if◌then◌else◌}
 use Rattle.std.specs.List.{All}
 use Rattle.bt_style.specs.Tree.{ops_body}
 use Rattle.bt_actions.specs.declared.entry.Variables.{Variables}
@@ -72,24 +72,25 @@ texts_over pool [] ts = ts
 texts_over pool (v ∷ vs) [] = []
 texts_over pool (v ∷ vs) (t ∷ ts) = text_over pool v t ∷ texts_over pool vs ts
 
--- the number that a step gave to a variable, if it gave it one
-abbrev pub own_of : Option (Option ℤ) → Option ℤ
+-- the value that a step gave to a variable, if it gave it one
+abbrev pub own_of : {A : Type 0} → Option (Option A) → Option A
 own_of None = None
 own_of (Some o) = o
 
--- the same of numbers
-abbrev pub number_over : Option ℤ → ℤ → ℤ
-number_over None z = z
-number_over (Some n) z = n
+-- the value that a step gave, or else the one that it was given
+abbrev pub value_over : {A : Type 0} → Option A → A → A
+value_over None a = a
+value_over (Some b) a = b
 
-abbrev pub numbers_over : List (Option ℤ) → List ℤ → List ℤ
-numbers_over [] zs = zs
-numbers_over (n ∷ ns) [] = []
-numbers_over (n ∷ ns) (z ∷ zs) = number_over n z ∷ numbers_over ns zs
+-- values, and in place of some those that a step gave
+abbrev pub values_over : {A : Type 0} → List (Option A) → List A → List A
+values_over [] l = l
+values_over (o ∷ os) [] = []
+values_over (o ∷ os) (a ∷ l) = value_over o a ∷ values_over os l
 
 abbrev pub variables_in : List ℕ → StepVariables → Variables
 variables_in pool v = record {
-  numbers = numbers_over v.numbers.items v.given.now.numbers;
+  numbers = values_over v.numbers.items v.given.now.numbers;
   texts = texts_over pool v.texts.items v.given.now.texts;
 }
 

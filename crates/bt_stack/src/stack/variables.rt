@@ -125,20 +125,35 @@ impl<'a> Stack<'a> {
         }
     }
 
+    /// A buffer for so many texts that outlive the step: the step's own, if it still has it.
+    fn page_for(&mut self, alloc: Global, count: usize) -> Vec<u8>
+        ensures { self.new ≡ self.old }
+    {
+        if count == 0 {
+            Vec::new(alloc)
+        } else {
+            self.take_page(alloc)
+        }
+    }
+
     /// The variables of the style as they are now. The stack keeps none of the numbers that the step gave to them.
     pub fn globals_left(&mut self, alloc: Global) -> Result<VariablesLeft, AllocError>
         ensures left { IfOk result (λ left. left ≡ self.old.globals) }
         ensures own { self.new.own ≡ self.old.own }
     {
+        let count = self.globals.texts.len();
+        let page = self.page_for(alloc, count);
         let numbers = mem::replace(&mut self.globals.numbers, Vec::new(alloc));
-        VariablesLeft::of(alloc, &self.pool, numbers, &self.globals)
+        VariablesLeft::of(alloc, page, &self.pool, numbers, &self.globals)
     }
 
     /// The same of the entry.
     pub fn own_left(&mut self, alloc: Global) -> Result<VariablesLeft, AllocError>
         ensures { IfOk result (λ left. left ≡ self.old.own) }
     {
+        let count = self.own.texts.len();
+        let page = self.page_for(alloc, count);
         let numbers = mem::replace(&mut self.own.numbers, Vec::new(alloc));
-        VariablesLeft::of(alloc, &self.pool, numbers, &self.own)
+        VariablesLeft::of(alloc, page, &self.pool, numbers, &self.own)
     }
 }

@@ -1,6 +1,6 @@
-use Rattle.std.proofs.Common.{◌≡◌, length}
-use Rattle.bt_stack.specs.inner.Left.{copies_over}
+use Rattle.std.proofs.Common.{◌≡◌, take}
+use Rattle.bt_stack.specs.inner.Kept.{values_over}
 use Rattle.bt_stack.proofs.variables_left.put_texts.Given as goal
 
-abbrev pub invariant-copies : goal.invariant-copies
-invariant-copies l = (l.left ≡ copies_over l.yielded l.fn.left) × (l.n ≡ length l.yielded)
+abbrev pub invariant-texts : goal.invariant-texts
+invariant-texts l = l.left ≡ values_over (take l.n l.texts) l.fn.left
