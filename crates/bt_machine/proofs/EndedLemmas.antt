@@ -11,7 +11,7 @@ use Rattle.bt_stack.specs.declared.leaving.Left.{Left}
 use Rattle.bt_stack.specs.declared.state.State.{State}
 use Rattle.bt_stack.specs.View.{world_of, left_of, entries_seen, place_seen}
 use Rattle.bt_machine.specs.Step.{first_variables, finished_at, outcome_of}
-use Rattle.bt_machine.specs.inner.Ended.{outcome_left}
+use Rattle.bt_machine.specs.Ended.{outcome_left}
 use Rattle.bt_machine.specs.inner.Loop.{counts, is_stop}
 
 -- The entry's variables are those of the first entry of the step's world.

@@ -25,7 +25,7 @@ use Rattle.bt_actions.specs.declared.tally.Tally.{Tally}
 use Rattle.bt_machine.specs.Eval.{Counts, Ending, Done, Stopped, acted, then_go, code_body, function_body, run_with, by_sign, turn, looped, built_in, act, calls_after, eval}
 use Rattle.bt_machine.specs.inner.Cases.{no_definition, finish_of, counts_begun, step_begun}
 use Rattle.bt_machine.specs.Step.{finished_at, step}
-use Rattle.bt_machine.specs.inner.Loop.{Frame, Run, Test, frame_seen, meant, left, run_ended, is_above, kept, whole, SameLeft, begun, counts, is_stop, checked_at}
+use Rattle.bt_machine.specs.inner.Loop.{Frame, Run, Test, frame_seen, meant, left, run_ended, is_above, kept, whole, SameLeft, ticked, counts, is_stop, checked_at}
 use Rattle.bt_machine.proofs.Equations.{eval-end, eval-no_tick, eval-then, looped-turn}
 
 -- two runs after one
@@ -127,8 +127,7 @@ no_op (op ∷ ops) e = absurd (omega (arith, e))
 
 -- What an element leads to.
 
--- ticks and calls once an element's tick is taken
-pub tick_taken : (e : Element) (before after : Tally) → after.ticks + 1 ≡ before.ticks → after.calls ≡ calls_after e before.calls → counts after ≡ begun e before
+pub tick_taken : (e : Element) (before after : Tally) → after.ticks + 1 ≡ before.ticks → after.calls ≡ calls_after e before.calls → counts after ≡ ticked e before
 tick_taken e before after ticks calls =
     let less : after.ticks ≡ before.ticks - 1 = omega (arith, ticks) in
     λ i. (less i, calls i)
@@ -143,17 +142,17 @@ element_leads p e fs gs w k k1 now o leads same ticks calls did =
     ∙ sym (same p w k)
     ∙ leads
 
--- an element that is seen to be this one, once its tick is taken
-pub seen_leads : (p : Program) (e e' : Element) (w : World) (before after : Tally) (now : Ending) (go : World → Counts → Ending) → e ≡ e' → after.ticks + 1 ≡ before.ticks → after.calls ≡ calls_after e' before.calls → now ≡ then_go (act p (eval p) e' w (counts after)) go → now ≡ then_go (act p (eval p) e w (begun e before)) go
+-- `e'` is what the code recognised, and is `e`; its tick is taken.
+pub seen_leads : (p : Program) (e e' : Element) (w : World) (before after : Tally) (now : Ending) (go : World → Counts → Ending) → e ≡ e' → after.ticks + 1 ≡ before.ticks → after.calls ≡ calls_after e' before.calls → now ≡ then_go (act p (eval p) e' w (counts after)) go → now ≡ then_go (act p (eval p) e w (ticked e before)) go
 seen_leads p e e' w before after now go seen ticks calls did =
     let taken = tick_taken e before after ticks (calls ∙ ap (λ e. calls_after e before.calls) (sym seen)) in
     did ∙ ap (λ e. then_go (act p (eval p) e w (counts after)) go) (sym seen) ∙ ap (λ k. then_go (act p (eval p) e w k) go) taken
 
--- the same of an element whose tick is still there
-pub begun_leads : (p : Program) (e : Element) (fs gs : List Frame) (w : World) (t : Tally) (now o : Ending) → left p fs w (counts t) ≡ o → SameLeft fs (Run (Block (Then e End)) ∷ gs) → t.ticks ≢ 0 → now ≡ then_go (act p (eval p) e w (begun e t)) (left p gs) → now ≡ o
-begun_leads p e fs gs w t now o leads same some did =
+-- `element_leads` of an element whose tick is still there
+pub ticked_leads : (p : Program) (e : Element) (fs gs : List Frame) (w : World) (t : Tally) (now o : Ending) → left p fs w (counts t) ≡ o → SameLeft fs (Run (Block (Then e End)) ∷ gs) → t.ticks ≢ 0 → now ≡ then_go (act p (eval p) e w (ticked e t)) (left p gs) → now ≡ o
+ticked_leads p e fs gs w t now o leads same some did =
     let ticks : t.ticks - 1 + 1 ≡ t.ticks = omega (arith, some) in
-    element_leads p e fs gs w (counts t) (begun e t) now o leads same ticks refl did
+    element_leads p e fs gs w (counts t) (ticked e t) now o leads same ticks refl did
 
 pub no_tick_leads : (p : Program) (e : Element) (fs gs : List Frame) (w w' : World) (k : Counts) (o : Ending) → left p fs w k ≡ o → SameLeft fs (Run (Block (Then e End)) ∷ gs) → k.0 ≡ 0 → w' ≡ say TicksPassed w → Stopped w' k ≡ o
 no_tick_leads p e fs gs w w' k o leads same none told =

@@ -3,4 +3,3 @@ pub mod Loop
 pub mod Footprint
 pub mod Substitution
 pub mod Cases
-pub mod Ended

@@ -216,7 +216,7 @@ fn call_runner<'a>(
     Ok(next)
 }
 
-/// The same, fast for those that run no other.
+/// Calls a built-in function. One that runs no other function is called right here.
 #[inline(always)]
 pub fn call_builtin<'a>(
     state: &mut State<'a>,

@@ -3,6 +3,7 @@
 use bt_actions::{Entry, Variables};
 use bt_style::Target;
 use bt_text::{Bytes, Held, Shared};
+use std::marker::Model;
 
 /// What a step is given.
 #[derive(Debug, Drop)]
@@ -23,6 +24,19 @@ impl Input {
     ghost use Rattle.std.specs.Prelude.{◌≡◌};
     ghost use Rattle.bt_machine.specs.Step.{function_of};
 
+    /// The same input, lent.
+    pub fn lend(&self) -> LentInput<'_>
+        ensures { result ≡ self.now }
+    {
+        LentInput {
+            target: self.target,
+            entry: self.entry.as_ref(),
+            globals: &self.globals,
+            held: &self.held,
+            preamble: &self.preamble,
+        }
+    }
+
     /// The function of the type of the entry, if there is one.
     pub fn type_function(&self) -> Option<usize>
         ensures { result ≡ function_of self.now.entry }
@@ -32,4 +46,29 @@ impl Input {
             Some(entry) => entry.function,
         }
     }
+}
+
+/// What a step is given, lent by its owners. Contracts see the input.
+#[derive(Drop)]
+pub struct LentInput<'a> {
+    pub target: Target,
+    pub entry: Option<&'a Entry>,
+    pub globals: &'a Shared<Variables>,
+    pub held: &'a Held,
+    pub preamble: &'a Shared<Bytes>,
+}
+
+impl<'a> Model for LentInput<'a> {
+    ghost use Rattle.std.specs.Prelude.{option_copied};
+    ghost use Rattle.bt_machine.specs.declared.input.Input.{Input};
+
+    ghost Value = { Input };
+
+    ghost view = { λ input. record {
+      target = input.target;
+      entry = option_copied input.entry;
+      globals = input.globals.now;
+      held = input.held.now;
+      preamble = input.preamble.now;
+    } };
 }

@@ -23,7 +23,7 @@ use Rattle.bt_run.specs.declared.kept_steps.KeptSteps.{KeptSteps}
 use Rattle.bt_run.specs.declared.reuse.Reuse.{Reuse}
 use Rattle.bt_run.specs.Course.{Recorded, course_world, input_at, step_kept, left_by, stepped}
 use Rattle.bt_run.specs.inner.Cases.{all_told}
-use Rattle.bt_run.specs.inner.Course.{recorded, IsArranged, IsOrdered, lent, with_variables, variables_back, put_back}
+use Rattle.bt_run.specs.inner.Course.{recorded, IsArranged, IsOrdered, given_up, with_variables, variables_back, put_back}
 use Rattle.bt_run.specs.Work.{total_cost, work_under, IsStep, own_left}
 use Rattle.bt_run.specs.inner.Found.{AreFoundBy}
 use Rattle.bt_run.specs.inner.Calls.{AreCallsFrom}
@@ -100,10 +100,10 @@ pub length-variables_back : (x : Option ℕ) (v : Option Variables) (entries : L
 length-variables_back None v entries = refl
 length-variables_back (Some n) v entries = length-set entries n (with_variables v (slice_index_or entries n no_entry))
 
--- a place stays one while the run lends variables
-pub placed_lent : (x : Option ℕ) (others : Variables) (r lending : Course) → lending ≡ lent x others r → IsPlace x (course_world r) → IsPlace x (course_world lending)
-placed_lent None others r lending is h = tt
-placed_lent (Some n) others r lending is h =
+-- a place stays one when the run gives up variables
+pub placed_given_up : (x : Option ℕ) (others : Variables) (r lending : Course) → lending ≡ given_up x others r → IsPlace x (course_world r) → IsPlace x (course_world lending)
+placed_given_up None others r lending is h = tt
+placed_given_up (Some n) others r lending is h =
     subst (λ (c : Course). n < length c.entries) (sym is) (omega (arith, h, length-variables_back (Some n) (Some others) r.entries))
 
 -- variables put back over those that stood in for them
@@ -119,10 +119,10 @@ back_over es n others v left lt is =
     ∙ put_over es n others v lt
     ∙ sym (ap (λ (o : Option Variables). variables_back (Some n) o es) is)
 
--- What a run has lent comes back with what the step leaves.
-pub lent_back : (p : Program) → DependsOnInput p → (t : Target) (site : CommandPlace) (x : Option ℕ) (others : Variables) (o : Outcome) (i : Input) (r lending back : Course) → IsPlace x (course_world r) → i ≡ input_at t x (course_world r) → o.variables ≡ (outcome_of (step_in p i)).variables → lending ≡ lent x others r → back ≡ put_back site x o lending → back ≡ put_back site x o r
-lent_back p law t site None others o i r lending back h is_input is_left is_lent is_back = is_back ∙ ap (put_back site None o) is_lent
-lent_back p law t site (Some n) others o i r lending back h is_input is_left is_lent is_back =
+-- What a step leaves comes in the place of what the run gave up.
+pub back_over_given_up : (p : Program) → DependsOnInput p → (t : Target) (site : CommandPlace) (x : Option ℕ) (others : Variables) (o : Outcome) (i : Input) (r lending back : Course) → IsPlace x (course_world r) → i ≡ input_at t x (course_world r) → o.variables ≡ (outcome_of (step_in p i)).variables → lending ≡ given_up x others r → back ≡ put_back site x o lending → back ≡ put_back site x o r
+back_over_given_up p law t site None others o i r lending back h is_input is_left is_lent is_back = is_back ∙ ap (put_back site None o) is_lent
+back_over_given_up p law t site (Some n) others o i r lending back h is_input is_left is_lent is_back =
     let v = (slice_index_or (step p (Some 0) t (cut (Some n) (course_world r))).world.entries 0 no_entry).variables in
     let there : o.variables ≡ Some v =
     is_left ∙ ap (λ (i : Input). first_variables (step_in p i).world.entries) is_input ∙ one_entry p law t n (course_world r) in

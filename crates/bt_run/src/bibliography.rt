@@ -142,7 +142,7 @@ impl NewPart {
         self.text.extend_from_slice(&old[from..end])
     }
 
-    /// The part of the old bibliography that changes if `others` replace the steps of their numbers. It may contain unchanged
+    /// The part of the old bibliography that changes if each of `others` replaces the step with its number. It may contain unchanged
     /// bytes. The only error is out of memory.
     pub fn of(
         alloc: Global,

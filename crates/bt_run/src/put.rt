@@ -1,7 +1,7 @@
 //! How the new run takes the place of the old one.
 //!
-//! What it shows, except the bibliography (`bibliography.rt`), is made first, beside the old answers. Then what is kept is
-//! changed in place, which can't fail.
+//! What it shows, except the bibliography, is made first, beside the old answers. Then the bibliography is changed
+//! (`bibliography.rt`), which is the last step that can fail, and then the rest of what is kept.
 
 ghost use Rattle.std.specs.Prelude.{◌≡◌, ◌++◌, ℕ, List, IfOk};
 ghost use Rattle.bt_log.specs.declared.message.Message.{Message as MessageSeen};

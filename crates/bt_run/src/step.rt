@@ -1,6 +1,6 @@
-//! A step of a run: its input is cut out of the run, and its outcome put back.
+//! A step of a run: its input is cut out of the run, and its outcome put back. A run that keeps no steps lends the input.
 
-ghost use Rattle.std.specs.Prelude.{◌≡◌, ◌<◌, ◌++◌, ℕ, List, Some, length, IfOk, OnOk};
+ghost use Rattle.std.specs.Prelude.{◌≡◌, ◌<◌, ◌++◌, ℕ, List, Some, length, option_copied, IfOk, OnOk};
 ghost use Rattle.std.specs.Option.{option_map, ForSome};
 ghost use Rattle.bt_actions.specs.declared.entry.Entry.{Entry as EntrySeen};
 ghost use Rattle.bt_actions.specs.World.{entry_in};
@@ -10,25 +10,36 @@ ghost use Rattle.bt_log.specs.declared.message.Place.TheVariants as places;
 ghost use Rattle.bt_log.specs.Message.{at};
 ghost use Rattle.bt_run.specs.Course.{course_world, input_at};
 ghost use Rattle.bt_run.specs.inner.Cases.{all_told};
-ghost use Rattle.bt_run.specs.inner.Course.{variables_back, put_back, lent};
+ghost use Rattle.bt_run.specs.inner.Course.{variables_back, put_back, given_up};
 
 use crate::course::{CommandPlace, Course};
 use crate::step_command::StepCommand;
 use bt_actions::{Entry, Variables};
 use bt_log::{Message, Place};
-use bt_machine::{Input, Outcome, StepEnd};
+use bt_machine::{Input, LentInput, Outcome, StepEnd};
 use bt_style::Target;
 use bt_text::{Bytes, Held, Sequence, Shared};
 use std::alloc::{AllocError, Global};
 use std::mem;
 
-fn entry_at(course: &Course, place: Option<usize>) -> Result<Option<Entry>, AllocError>
+/// The entry at a place, or none.
+fn entry_at(course: &Course, place: Option<usize>) -> Option<&Entry>
     requires { IsPlace place (course_world course.now) }
-    ensures { IfOk result (λ entry. entry ≡ entry_in course.now.entries place) }
+    ensures { option_copied result ≡ entry_in course.now.entries place }
 {
     match place {
+        None => None,
+        Some(place) => Some(&course.entries.as_slice()[place]),
+    }
+}
+
+/// The same entry for one more owner, if there is one.
+pub fn share_if_any(entry: Option<&Entry>) -> Result<Option<Entry>, AllocError>
+    ensures { IfOk result (λ same. same ≡ option_copied entry.entry) }
+{
+    match entry {
         None => Ok(None),
-        Some(place) => Ok(Some(course.entries.as_slice()[place].share()?)),
+        Some(entry) => Ok(Some(entry.share()?)),
     }
 }
 
@@ -44,39 +55,42 @@ pub fn cut_out(
 {
     Ok(Input {
         target,
-        entry: entry_at(course, place)?,
+        entry: share_if_any(entry_at(course, place))?,
         globals: course.globals.share()?,
         held: course.held.copy(alloc)?,
         preamble: course.preamble.share()?,
     })
 }
 
-/// The same for a step after which the run gets other variables. The run lends its global variables and those of the entry
-/// to the step, and has these in their place until then: so the step is their only owner and can change them in place.
-pub fn move_out(
+/// A step's input, lent by the run.
+pub fn lend_input(course: &Course, target: Target, place: Option<usize>) -> LentInput<'_>
+    requires { IsPlace place (course_world course.now) }
+    ensures { result ≡ input_at target place (course_world course.now) }
+{
+    LentInput {
+        target,
+        entry: entry_at(course, place),
+        globals: &course.globals,
+        held: &course.held,
+        preamble: &course.preamble,
+    }
+}
+
+/// Replaces the run's global variables and the entry's by `others`, until `move_back`. Then what the step left is the only
+/// owner of the old ones, and `settle_step` changes them in place.
+pub fn give_up_variables(
     alloc: Global,
     course: &mut Course,
-    target: Target,
     place: Option<usize>,
     others: &Shared<Variables>,
-) -> Result<Input, AllocError>
+) -> Result<(), AllocError>
     requires { IsPlace place (course_world course.old) }
-    ensures input { IfOk result (λ input. input ≡ input_at target place (course_world course.old)) }
-    ensures course { OnOk result (course.new ≡ lent place others.now course.old) }
+    ensures { OnOk result (course.new ≡ given_up place others.now course.old) }
 {
-    let entry = entry_at(course, place)?;
-    let held = course.held.copy(alloc)?;
-    let preamble = course.preamble.share()?;
-    let globals = mem::replace(&mut course.globals, others.share()?);
+    course.globals = others.share()?;
     let others = Some(others.share()?);
     put_variables_back(alloc, &mut course.entries, place, others);
-    Ok(Input {
-        target,
-        entry,
-        globals,
-        held,
-        preamble,
-    })
+    Ok(())
 }
 
 fn told(message: &Message, site: &CommandPlace) -> Result<Message, AllocError>

@@ -29,6 +29,7 @@ use crate::known_calls::exchange_calls;
 use crate::reuse::Reuse;
 use crate::reused_step::{Done, StepToTake};
 use crate::same_messages::are_same_messages;
+use crate::step::share_if_any;
 use crate::walk_context::WalkContext;
 use bt_actions::{Entry, Variables};
 use bt_machine::{Input, Outcome, equal_variables};
@@ -121,15 +122,6 @@ fn begins_alike(steps: &[Shared<Step>], globals: &Variables) -> bool
     }
 }
 
-fn share_if_any(entry: &Option<Entry>) -> Result<Option<Entry>, AllocError>
-    ensures { IfOk result (λ same. same ≡ entry.now) }
-{
-    match entry {
-        None => Ok(None),
-        Some(entry) => Ok(Some(entry.share()?)),
-    }
-}
-
 impl Walk {
     /// At the first step. None if the calls of the old steps aren't known.
     pub fn begun(context: WalkContext<'_>, globals: Variables) -> Result<Option<Walk>, AllocError>
@@ -160,7 +152,7 @@ impl Walk {
         if own {
             return Ok(Some(self.entry.share()?));
         }
-        share_if_any(old)
+        share_if_any(old.as_ref())
     }
 
     /// The input of a re-made step, from the old step's.

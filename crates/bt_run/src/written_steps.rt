@@ -8,10 +8,10 @@ use crate::course::Course;
 use crate::job::Job;
 use crate::read_command::read_once;
 use crate::recorder::Recorder;
-use crate::step::{move_back, move_out};
+use crate::step::{give_up_variables, lend_input, move_back};
 use crate::step_command::StepCommand;
 use bt_actions::{Tally, Variables};
-use bt_machine::{SoundPatterns, activate_once, sound_patterns, step_depends_on_its_input};
+use bt_machine::{SoundPatterns, run_step, settle_step, sound_patterns, step_depends_on_its_input};
 use bt_style::{BUILTIN_COUNT, Style, Target};
 use bt_text::{Bytes, Shared, Values};
 use std::alloc::{AllocError, Global};
@@ -21,7 +21,7 @@ use std::alloc::{AllocError, Global};
 pub struct WrittenSteps {
     pub bbl: Bytes,
     pub calls: Calls,
-    /// What the run has in place of the variables that it lends to a step.
+    /// Stands in for the variables that the run gave up.
     others: Shared<Variables>,
     /// The patterns of the style.
     patterns: SoundPatterns,
@@ -63,7 +63,7 @@ impl Recorder for WrittenSteps {
         read_once(job, number, course)
     }
 
-    #[tactic(auto, using(crate::proofs::CourseLemmas::placed_lent))]
+    #[tactic(auto, using(crate::proofs::CourseLemmas::placed_given_up))]
     fn take_step(
         &mut self,
         command: StepCommand<'_>,
@@ -75,9 +75,11 @@ impl Recorder for WrittenSteps {
         step_depends_on_its_input();
         let job = command.job;
         let alloc = job.alloc;
-        let input = move_out(alloc, course, target, place, &self.others)?;
+        let input = lend_input(course, target, place);
         let mut tally = Tally::new();
-        let (end, lines) = activate_once(alloc, job.style, &self.patterns, input, &mut tally)?;
+        let (left, flow) = run_step(alloc, job.style, &self.patterns, input, &mut tally)?;
+        give_up_variables(alloc, course, place, &self.others)?;
+        let (end, lines) = settle_step(alloc, left, flow)?;
         move_back(command, course, place, end)?;
         write_own_lines(&mut self.bbl, lines.as_slice())?;
         add_calls(&mut self.calls, &tally.calls)?;

@@ -1,6 +1,6 @@
 //! How a step begins: with an empty stack, beside what its input has.
 
-ghost use Rattle.std.specs.Prelude.{◌≡◌};
+ghost use Rattle.std.specs.Prelude.{◌≡◌, option_copied};
 ghost use Rattle.bt_stack.specs.View.{own_begun};
 
 use crate::stack::Stack;
@@ -11,8 +11,8 @@ use bt_text::{Held, Sequence, Shared};
 use std::alloc::{AllocError, Global};
 
 /// The variables that stand for those of a step's entry. Without an entry they are never used.
-fn own_begun<'a>(entry: &'a Option<Entry>, globals: &'a Shared<Variables>) -> &'a Shared<Variables>
-    ensures { result.now ≡ own_begun entry.now globals.now }
+fn own_begun<'a>(entry: Option<&'a Entry>, globals: &'a Shared<Variables>) -> &'a Shared<Variables>
+    ensures { result.now ≡ own_begun (option_copied entry.entry) globals.now }
 {
     match entry {
         None => globals,
@@ -21,22 +21,21 @@ fn own_begun<'a>(entry: &'a Option<Entry>, globals: &'a Shared<Variables>) -> &'
 }
 
 impl<'a> State<'a> {
-    ghost use Rattle.std.specs.Prelude.{◌≡◌, [], OnOk};
+    ghost use Rattle.std.specs.Prelude.{◌≡◌, option_copied, OnOk};
     ghost use Rattle.bt_stack.specs.View.{world_of, world_begun};
 
     /// The state before a step for an entry or for none, with the variables of the style. It holds no line, and has no memory
     /// of its own yet. A result that might be out of memory would be copied, with all of the state, at each step.
     pub fn begin(
         alloc: Global,
-        entry: &'a Option<Entry>,
+        entry: Option<&'a Entry>,
         globals: &'a Shared<Variables>,
         preamble: &'a [u8],
         patterns: &'a SoundPatterns,
     ) -> State<'a>
-        ensures { world_of result ≡ world_begun entry.now globals.now preamble.now }
+        ensures { world_of result ≡ world_begun (option_copied entry.entry) globals.now preamble.now }
     {
         let own = own_begun(entry, globals);
-        let entry = entry.as_ref();
         State {
             stack: Stack::new(alloc, globals, own),
             entry,

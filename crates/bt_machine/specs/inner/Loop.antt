@@ -113,14 +113,14 @@ abbrev pub IsBegun : List Op → List HeldFrame → Tally → List Frame → Tal
 IsBegun ops fs after old before = (p : Program) (w : World) → left p (whole ops fs) w (counts after) ≡ left p old w (counts before)
 
 -- ticks and calls once an element's tick is taken
-abbrev pub begun : Element → Tally → Counts
-begun e t = (t.ticks - 1, calls_after e t.calls)
+abbrev pub ticked : Element → Tally → Counts
+ticked e t = (t.ticks - 1, calls_after e t.calls)
 
--- the same of an element, whose tick is still to be taken, beside the rest of its body
+-- `ComesTo` of an element whose tick is still to be taken, beside the rest of its body
 abbrev pub OpComesTo : Program → State → Tally → State → Tally → Bor Op × Bor (List Op) → List HeldFrame → Next → List HeldFrame → Type 0
 OpComesTo p old before new after at fs next fs' =
     followed p next fs' (world_of new) (counts after)
-    ≡ then_go (act p (eval p) (element_of at.0.now) (world_of old) (begun (element_of at.0.now) before)) (left p (whole at.1.now fs))
+    ≡ then_go (act p (eval p) (element_of at.0.now) (world_of old) (ticked (element_of at.0.now) before)) (left p (whole at.1.now fs))
 
 -- Of a call that waited: the body that runs next, or the stop where there is none, comes to what was left before.
 abbrev pub IsCalled : Program → State → Tally → State → Tally → Target → List Op → List HeldFrame → Option (Bor (List Op)) → List HeldFrame → Type 0

@@ -42,6 +42,6 @@ put_back site x o r =
       stopped = o.stop;
     }
 
--- a run that has lent its global variables and those of an entry to a step
-abbrev pub lent : Option ℕ → Variables → Course → Course
-lent x others r = record r { entries = variables_back x (Some others) r.entries; globals = others }
+-- a run that has given up its global variables and those of an entry, with others in their place
+abbrev pub given_up : Option ℕ → Variables → Course → Course
+given_up x others r = record r { entries = variables_back x (Some others) r.entries; globals = others }

@@ -10,7 +10,7 @@ use Rattle.bt_machine.specs.declared.calls.Next.{Next}
 use Rattle.bt_machine.specs.declared.calls.Next.TheVariants as next
 use Rattle.bt_machine.specs.Eval.{Ending, eval}
 use Rattle.bt_machine.specs.inner.Loop.{Run, call_left, counts, IsDue, followed, kept, left, whole}
-use Rattle.bt_machine.proofs.LoopLemmas.{begun_leads, due_element, ends_leads, kept_some, no_op, no_tick_leads, starts, turn_leads}
+use Rattle.bt_machine.proofs.LoopLemmas.{ticked_leads, due_element, ends_leads, kept_some, no_op, no_tick_leads, starts, turn_leads}
 use Rattle.bt_machine.proofs.run.run_all.Goals as goal
 
 pub work-init : goal.work-init
@@ -71,7 +71,7 @@ returns-in-Stop c =
     let is_due = due_element c.in-Some.op.now c.work.rest.now c.in-Some.after.now c.work.control.items c.in-Some.ensures.cases.0 in
     let follows : Next → Ending = λ next. followed p next c.carry_out.new.control.items (world_of c.carry_out.new.state) (counts c.carry_out.new.tally) in
     let did = ap follows (sym c.in-Stop.is) ∙ c.in_ok-next-in-Some.ensures.leads in
-    begun_leads p element left_before left_now (world_of c.work.state) c.work.tally (follows next.Stop) end c.work.invariant is_due c.if-tally-eq0.false did
+    ticked_leads p element left_before left_now (world_of c.work.state) c.work.tally (follows next.Stop) end c.work.invariant is_due c.if-tally-eq0.false did
 
 pub work-preserved-in-Body : goal.work-preserved-in-Body
 work-preserved-in-Body c =
@@ -83,7 +83,7 @@ work-preserved-in-Body c =
     let is_due = due_element c.in-Some.op.now c.work.rest.now c.in-Some.after.now c.work.control.items c.in-Some.ensures.cases.0 in
     let follows : Next → Ending = λ next. followed p next c.carry_out.new.control.items (world_of c.carry_out.new.state) (counts c.carry_out.new.tally) in
     let did = ap follows (sym (c.in-Body.is)) ∙ c.in_ok-next-in-Some.ensures.leads in
-    begun_leads p element left_before left_now (world_of c.work.state) c.work.tally (follows (next.Body c.in-Body.body)) end c.work.invariant is_due c.if-tally-eq0.false did
+    ticked_leads p element left_before left_now (world_of c.work.state) c.work.tally (follows (next.Body c.in-Body.body)) end c.work.invariant is_due c.if-tally-eq0.false did
 
 pub work-preserved : goal.work-preserved
 work-preserved c =
