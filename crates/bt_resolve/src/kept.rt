@@ -9,38 +9,32 @@
 //! list, the macros after all items, and the stored entries apart from their values. The present values have a list of
 //! their own.
 
-ghost use Rattle.std.specs.Prelude.{◌≡◌, ◌+◌, ◌++◌, ◌^◌, ◌<◌, ◌≤◌, length, IfOk, IfSome, IsTrue};
+ghost use Rattle.std.specs.Prelude.{◌≡◌, ◌+◌, ◌^◌, ◌<◌, ◌≤◌, length, IfOk, IfSome, IsTrue};
 ghost use Rattle.bt_text.specs.ByName.{known};
 ghost use Rattle.bt_text.specs.NameList.{are_apart};
 ghost use Rattle.bt_resolve.specs.inner.Earlier.{AreEdited, IsEarlier};
-ghost use Rattle.bt_resolve.specs.inner.Kept.{IsAround, IsEditOf, IsFound, IsNewSpan, IsPlace, AreBefore, IsResolvedEdit, IsSpanEdit, asked_by, found_of, mark_of, resolved_for, with_database};
-ghost use Rattle.bt_resolve.specs.References.{list_messages};
-ghost use Rattle.bt_resolve.specs.inner.Inheritance.{seen_of};
+ghost use Rattle.bt_resolve.specs.inner.Kept.{IsAround, IsEditOf, IsFound, IsNewSpan, IsPlace, AreBefore, IsResolvedEdit, IsSpanEdit, asked_by, mark_of, resolved_for, with_database};
 
 use crate::asked::Asked;
 use crate::databases::{nothing_read, read_databases};
 use crate::earlier::{Earlier, EditedDatabase};
-use crate::entry::{Entry, Resolved};
+use crate::entry::Resolved;
 use crate::family::Family;
-use crate::inheritance::values_read;
+use crate::found::found_in;
 use crate::macro_text::MacroText;
 use crate::macros_before::{macros_before, string_databases, strings_end};
 use crate::moved_messages::patched;
 use crate::question::Question;
-use crate::reading::{Reach, Reading};
-use crate::resolution::resolve_list;
+use crate::reading::Reach;
 use crate::seen_edit::{SeenEdit, put_seen};
 use crate::skeleton::is_short;
 use crate::span::{Mark, Span, SpanReader};
-use crate::store::Store;
 use crate::stored::FieldValues;
-use crate::view::Seen;
 use bt_bib::{Items, ItemsEdit};
 use bt_log::Message;
-use bt_text::{ByName, Bytes, Sequence, Shared};
+use bt_text::{ByName, Sequence, Shared};
 use std::alloc::{AllocError, Global};
 use std::marker::Model;
-use std::mem;
 
 /// What was found for a question, with what an edit needs.
 #[derive(Drop)]
@@ -176,54 +170,6 @@ impl EditView<'_, '_> {
         };
         Ok(Some(ResolvedEdit { seen, messages }))
     }
-}
-
-/// What is kept of a reading, whose entries are in `store`.
-fn found_of(
-    alloc: Global,
-    read: Reading,
-    store: Family,
-    reaches: Sequence<Sequence<Reach>>,
-    seen: Seen,
-) -> Result<Found, AllocError>
-    ensures { IfOk result (λ found. found ≡ found_of (record read { store = store }) reaches seen) }
-{
-    let values = Sequence::from_vec(values_read(alloc, store.entries())?);
-    let all = Resolved {
-        entries: seen.entries,
-        preamble: Shared::new(alloc, read.preamble)?,
-        messages: read.messages,
-    };
-    Ok(Found {
-        macros: Shared::new(alloc, read.macros)?,
-        store,
-        values,
-        listed: seen.listed,
-        reaches,
-        places: seen.places,
-        all,
-    })
-}
-
-/// Resolves the list, once all is read.
-pub fn found_in(
-    alloc: Global,
-    asked: &Asked<'_>,
-    min: u32,
-    read: Reading,
-    reaches: Sequence<Sequence<Reach>>,
-) -> Result<Found, AllocError>
-    requires { IfSome asked.now.star (λ before. before ≤ length asked.now.keys) }
-    ensures { IfOk result (λ found.
-        let all = record read { messages = read.messages ++ list_messages asked.now read.store } in
-        found ≡ found_of all reaches (seen_of asked.now min read.store)) }
-{
-    let mut read = read;
-    let store = mem::replace(&mut read.store, Store::new(alloc));
-    let family = Family::new(alloc, store)?;
-    let seen = resolve_list(alloc, asked, min, &family, &mut read.messages)?;
-    let found = found_of(alloc, read, family, reaches, seen)?;
-    Ok(found)
 }
 
 fn find_asked(

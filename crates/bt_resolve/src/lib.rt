@@ -11,6 +11,7 @@ mod entry;
 mod family;
 mod faults;
 mod fields;
+mod found;
 mod heirs;
 mod index;
 mod inheritance;

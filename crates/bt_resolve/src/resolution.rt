@@ -17,7 +17,7 @@ use crate::databases::{nothing_read, read_texts};
 use crate::declared::{Cites, Declared, Macro};
 use crate::entry::Resolved;
 use crate::family::Family;
-use crate::kept::found_in;
+use crate::found::found_in;
 use crate::list::listed;
 use crate::view::{Seen, View};
 use bt_log::Message;

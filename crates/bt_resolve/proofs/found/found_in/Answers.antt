@@ -3,7 +3,7 @@ use Rattle.bt_resolve.specs.declared.stored.Stored.{Stored}
 use Rattle.bt_resolve.specs.References.{list_messages}
 use Rattle.bt_resolve.specs.inner.Inheritance.{seen_of}
 use Rattle.bt_resolve.specs.inner.Kept.{found_of}
-use Rattle.bt_resolve.proofs.kept.found_in.Goals as goal
+use Rattle.bt_resolve.proofs.found.found_in.Goals as goal
 
 pub returns : goal.returns
 returns c =
