@@ -14,4 +14,5 @@ pub mod CoverLemmas
 pub mod Steps
 pub mod Runs
 pub mod FollowLemmas
+pub mod StateLemmas
 mod rows

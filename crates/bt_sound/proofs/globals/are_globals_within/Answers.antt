@@ -1,5 +1,5 @@
 use Rattle.std.proofs.Common.{sym, ◌∙◌}
-use Rattle.bt_sound.proofs.FollowLemmas.{globals_within}
+use Rattle.bt_sound.proofs.StateLemmas.{globals_within}
 use Rattle.bt_sound.proofs.globals.are_globals_within.Goals as goal
 
 pub returns : goal.returns

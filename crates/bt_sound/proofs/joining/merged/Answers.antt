@@ -1,7 +1,7 @@
 use Rattle.std.proofs.Common.{subst}
 use Rattle.bt_sound.specs.Seen.{states_seen}
 use Rattle.bt_sound.specs.Follows.{Covered}
-use Rattle.bt_sound.proofs.FollowLemmas.{covered_same}
+use Rattle.bt_sound.proofs.StateLemmas.{covered_same}
 use Rattle.bt_sound.proofs.joining.merged.Goals as goal
 
 pub returns-then-len-lt2 : goal.returns-then-len-lt2

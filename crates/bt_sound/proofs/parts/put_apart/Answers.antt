@@ -1,7 +1,8 @@
 use Rattle.std.proofs.Common.{◌++◌, ap, sym, ◌∙◌, rules}
 use Rattle.bt_sound.specs.Reading.{above_zero, upto_zero}
 use Rattle.bt_sound.specs.Seen.{knowns_seen, states_seen}
-use Rattle.bt_sound.proofs.FollowLemmas.{some_if_is, both_seen}
+use Rattle.bt_sound.proofs.FollowLemmas.{some_if_is}
+use Rattle.bt_sound.proofs.StateLemmas.{both_seen}
 use Rattle.bt_sound.proofs.parts.put_apart.Goals as goal
 
 pub returns : goal.returns

@@ -1,4 +1,5 @@
-use Rattle.bt_sound.proofs.FollowLemmas.{no_splits, each_split, all_split}
+use Rattle.bt_sound.proofs.FollowLemmas.{no_splits}
+use Rattle.bt_sound.proofs.StateLemmas.{each_split, all_split}
 use Rattle.bt_sound.proofs.parts.split.Goals as goal
 
 pub mids-init : goal.mids-init

@@ -1,5 +1,5 @@
 use Rattle.std.proofs.Common.{sym, ◌∙◌}
-use Rattle.bt_sound.proofs.FollowLemmas.{covered_states}
+use Rattle.bt_sound.proofs.StateLemmas.{covered_states}
 use Rattle.bt_sound.proofs.within.is_covered.Goals as goal
 
 pub returns : goal.returns

@@ -6,7 +6,8 @@ use Rattle.bt_sound.specs.Reading.{pushing}
 use Rattle.bt_actions.specs.View.{code_seen}
 use Rattle.bt_sound.specs.Seen.{known_seen, state_seen, states_seen}
 use Rattle.bt_sound.specs.Follows.{Covered, Follows, Splits, Turned}
-use Rattle.bt_sound.proofs.FollowLemmas.{continues_start, continues_more, continues_end, acts_called, acts_pushes, acts_body, acts_none, acts_name, acts_builtin, acts_makes, each_state, all_states, follows_code, follows_name, some_default, no_default, chosen_states, turned, acts_while, each_type, all_types, acts_types}
+use Rattle.bt_sound.proofs.FollowLemmas.{continues_start, continues_more, continues_end, acts_called, acts_pushes, acts_body, acts_none, acts_name, acts_builtin, acts_makes, follows_code, follows_name, some_default, no_default, turned, acts_while, acts_types}
+use Rattle.bt_sound.proofs.StateLemmas.{each_state, all_states, chosen_states, each_type, all_types}
 use Rattle.bt_sound.proofs.following.Follower.+following.Goals as goal
 
 -- bodies

@@ -1,6 +1,7 @@
 use Rattle.std.proofs.Common.{rules}
 use Rattle.bt_sound.specs.Seen.{state_seen, states_seen}
-use Rattle.bt_sound.proofs.FollowLemmas.{step_leads, bare_states}
+use Rattle.bt_sound.proofs.FollowLemmas.{step_leads}
+use Rattle.bt_sound.proofs.StateLemmas.{bare_states}
 use Rattle.bt_sound.proofs.following.Follower.step.Goals as goal
 
 pub returns-then-are_bare : goal.returns-then-are_bare
