@@ -1,6 +1,5 @@
 -- What is kept of a text, what is re-read, and what is moved.
 use Rattle.std.specs.Prelude.{nat_lt, nat_le, ◌==◌, ◌&&◌}
-use Rattle.std.specs.List.{filter}
 use Rattle.std.proofs.Common.{◌≡◌, ℕ, zero, suc, ◌+◌, ◌-◌, ◌<◌, ◌≤◌, Bool, true, false, cond, List, [], ◌∷◌, ◌++◌, length, take, drop, map, Some, None, refl, sym, ap, subst, ◌∙◌, append_assoc, length-append, arith, inl, inr}
 use Rattle.std.proofs.lemmas.List.{drop-drop, append-nil, drop_all, take_at, drop_at, length-take-le, take-append-drop}
 use Rattle.std.proofs.lemmas.Bool.{cases_lt, lt-leb, le-leb, leb-true, ltb-true}
@@ -12,9 +11,9 @@ use Rattle.bt_bib.specs.Pieces.{next_piece}
 use Rattle.bt_bib.specs.BibText.{pieces_of}
 use Rattle.bt_bib.specs.inner.Cases.{pieces_from}
 use Rattle.bt_bib.specs.declared.splice.ItemsEdit.{ItemsEdit}
-use Rattle.bt_bib.specs.Boundaries.{boundaries, last_end, Rises, moved_piece}
+use Rattle.bt_bib.specs.Boundaries.{last_end, Rises, moved_piece}
 use Rattle.bt_bib.specs.inner.Boundaries.{below, InOrder}
-use Rattle.bt_bib.specs.Splice.{IsSplice, IsItemsEdit, is_common, is_boundary, least, reread_from, reread_upto}
+use Rattle.bt_bib.specs.Splice.{IsSplice, IsItemsEdit, is_common, is_boundary, reread_from, reread_upto}
 use Rattle.bt_bib.specs.inner.CommonBoundary.{until, IsJoint}
 use Rattle.bt_bib.specs.inner.PlacedPieces.{rebased, rebased_piece}
 use Rattle.bt_bib.proofs.RunLemmas.{same_spot}

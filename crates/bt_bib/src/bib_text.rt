@@ -16,7 +16,7 @@ use crate::items::Items;
 use crate::placed_pieces::PlacedPiece;
 use crate::reader::{Reader, common_names};
 use crate::spot::Spot;
-use bt_text::Shared;
+use bt_text::{Excerpt, Shared};
 use memchr::memchr;
 use std::alloc::{AllocError, Global};
 
@@ -37,9 +37,13 @@ impl Reader<'_> {
         requires { IsIn self.now.text.now start }
         ensures { Makes self.now.text.now start result (placed start (piece (drop start.place self.now.text.now))) }
     {
+        let (source, offset) = self.item_source(start.place)?;
         let own = Reader {
             alloc: self.alloc,
             text: &self.text[start.place..],
+            keeps: self.keeps,
+            source: &source,
+            offset,
             known: self.known,
         };
         let (piece, reached) = own.piece()?;
@@ -89,9 +93,13 @@ pub fn read_bib(alloc: Global, text: &[u8]) -> Result<Items, AllocError>
     ensures { IfOk result (λ items. items ≡ pieces_of text.now) }
 {
     let known = common_names(alloc)?;
+    let none = Excerpt::copied(alloc, b"")?;
     let reader = Reader {
         alloc,
         text,
+        keeps: true,
+        source: &none,
+        offset: 0,
         known: &known,
     };
     reader.pieces_from(Spot::START)

@@ -16,7 +16,7 @@ use crate::fault::ItemFault;
 use crate::reader::Reader;
 use crate::spot::Spot;
 use crate::stop::ReadStop;
-use bt_text::{Bytes, Shared};
+use bt_text::Excerpt;
 use memchr::memchr3;
 
 /// What a byte does inside braces or quotes.
@@ -95,14 +95,11 @@ impl Reader<'_> {
 
     /// The text from here up to the byte that closes it, and that byte's place.
     #[tactic(auto, using(crate::proofs::EnclosedLemmas::enclosed_found, crate::proofs::EnclosedLemmas::enclosed_stopped))]
-    pub fn enclosed(&self, from: Spot, close: u8) -> Result<(Shared<Bytes>, Spot), ReadStop>
+    pub fn enclosed(&self, from: Spot, close: u8) -> Result<(Excerpt, Spot), ReadStop>
         requires { IsIn self.now.text.now from }
         ensures { Gives self.now.text.now from result (enclosed close (here self.now.text.now from)) }
     {
         let end = self.enclosed_end(from, close)?;
-        Ok((
-            Shared::<Bytes>::copied(self.alloc, &self.text[from.place..end.place])?,
-            end,
-        ))
+        Ok((self.excerpt(from.place, end.place)?, end))
     }
 }

@@ -2,7 +2,7 @@
 
 use crate::fault::ItemFault;
 use crate::value_parts::ValueParts;
-use bt_text::{Bytes, Sequence, Shared};
+use bt_text::{Bytes, Excerpt, Sequence, Shared};
 
 /// The sign that closes an item.
 #[derive(Clone, Copy, Debug, PartialEq, Eq)]
@@ -17,7 +17,7 @@ pub enum Closing {
 #[derive(Debug, Drop)]
 pub enum Part {
     /// The bytes between two braces or quotes, or a run of digits.
-    Text(Shared<Bytes>),
+    Text(Excerpt),
     /// A macro's name as written, and its line, relative to that of the item's `@`.
     Macro(Shared<Bytes>, usize),
 }

@@ -15,7 +15,7 @@ ghost use Rattle.bt_bib.specs.inner.Cases.{preamble_read, string_read};
 ghost use Rattle.bt_bib.specs.inner.Pieces.{IsItem};
 
 use crate::fault::{ItemFault, NameRole};
-use crate::item::{Closing, Content, Definition, Entry, Item, Piece};
+use crate::item::{Closing, Content, Definition, Entry, Field, Item, Piece};
 use crate::keywords::Keyword;
 use crate::reader::Reader;
 use crate::scan::Class;
@@ -96,6 +96,18 @@ impl Reader<'_> {
         self.sign(from, close.sign(), ItemFault::ExpectedCommaOrClose)
     }
 
+    /// These fields. If items are kept, they take no more memory than they need.
+    fn kept_fields(&self, fields: Sequence<Field>) -> Sequence<Field>
+        ensures { result ≡ fields }
+    {
+        if !self.keeps {
+            return fields;
+        }
+        let mut fields = fields.into_vec();
+        fields.shrink_to_fit();
+        Sequence::from_vec(fields)
+    }
+
     fn entry_item(
         &self,
         kind: Shared<Bytes>,
@@ -111,7 +123,7 @@ impl Reader<'_> {
         let entry = Entry {
             kind: Some(kind),
             key: Some(key),
-            fields: found,
+            fields: self.kept_fields(found),
         };
         item(from.line, Content::Entry(entry), Some(close), end)
     }

@@ -1,20 +1,34 @@
-//! A reader of a text. What its functions return owns its memory and can outlive the text.
+//! A reader of a text. What its functions return can outlive the reader.
+//!
+//! A value is an excerpt, so it isn't copied. A run that keeps nothing takes excerpts of the whole text, which it keeps
+//! anyway. Other readers take them of a copy of the item's text. Otherwise one unchanged item would keep the whole old
+//! text in memory after an edit.
 //!
 //! Databases repeat a few names in each entry. The reader of a whole database allocates them once and shares them,
 //! which saves two allocations for nearly every field. A name is compared only with those of its length.
 
-ghost use Rattle.std.specs.Prelude.{◌≡◌, IfOk};
+ghost use Rattle.std.specs.Prelude.{◌≡◌, ◌≤◌, length, slice_range, IfOk};
 
-use bt_text::{Bytes, Shared};
+use bt_text::{Bytes, Excerpt, Shared};
+use memchr::memchr;
 use std::alloc::{AllocError, Global};
 
 #[derive(Drop)]
 pub struct Reader<'a> {
     pub alloc: Global,
     pub text: &'a [u8],
+    /// Whether items are kept. Then each has a copy of its own text, and its lists are as short as they can be.
+    pub keeps: bool,
+    /// What values are excerpts of. It isn't used before the first item of a reader that keeps them.
+    pub source: &'a Excerpt,
+    /// The offset of the text in the source.
+    pub offset: usize,
     /// Names that are shared instead of copied each time they occur: `ROW` for each length, beginning with 0 bytes.
     pub known: &'a [Shared<Bytes>],
 }
+
+/// The longest copy of an item's text. Most items are shorter; the later values of a longer one are copied one by one.
+const ITEM_BYTES: usize = 4_096;
 
 /// How many known names there are for each length. Empty ones fill up a row.
 const ROW: usize = 16;
@@ -71,6 +85,32 @@ pub fn common_names(alloc: Global) -> Result<Vec<Shared<Bytes>>, AllocError> {
 }
 
 impl Reader<'_> {
+    /// The bytes of the text from `start` to `end`.
+    pub fn excerpt(&self, start: usize, end: usize) -> Result<Excerpt, AllocError>
+        requires { (start ≤ end) × (end ≤ length self.now.text.now) }
+        ensures { IfOk result (λ excerpt. excerpt ≡ slice_range self.now.text.now start end) }
+    {
+        let place = self.offset.saturating_add(start);
+        self.source.part(self.alloc, place, &self.text[start..end])
+    }
+
+    /// The text that the item's values are excerpts of, and where the item begins in it. For an item that is kept, this is
+    /// a copy of the text up to the next `@`, at most `ITEM_BYTES`; most items end before it.
+    pub fn item_source(&self, start: usize) -> Result<(Excerpt, usize), AllocError>
+        requires { start ≤ length self.now.text.now }
+    {
+        if !self.keeps {
+            return Ok((self.source.share()?, self.offset.saturating_add(start)));
+        }
+        let rest = &self.text[start..];
+        let near = &rest[..rest.len().min(ITEM_BYTES)];
+        let len = match memchr(b'@', near.get(1..).unwrap_or(&[])) {
+            None => near.len(),
+            Some(place) => place + 1,
+        };
+        Ok((Excerpt::copied(self.alloc, &near[..len])?, 0))
+    }
+
     /// The known name with these bytes, or else a new one.
     pub fn name_of(&self, bytes: &[u8]) -> Result<Shared<Bytes>, AllocError>
         ensures { IfOk result (λ name. name ≡ bytes.now) }

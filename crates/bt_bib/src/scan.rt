@@ -16,7 +16,7 @@ use crate::item::Closing;
 use crate::reader::Reader;
 use crate::spot::Spot;
 use crate::stop::ReadStop;
-use bt_text::{Bytes, Shared, is_digit, is_name_byte, is_white};
+use bt_text::{Bytes, Excerpt, Shared, is_digit, is_name_byte, is_white};
 use memchr::memchr;
 use std::alloc::AllocError;
 
@@ -153,6 +153,17 @@ impl Reader<'_> {
             Shared::<Bytes>::copied(self.alloc, &self.text[from.place..end.place])?,
             end,
         ))
+    }
+
+    /// The longest run of digits.
+    #[tactic(auto, using(crate::proofs::RunLemmas::run_taken))]
+    pub fn digits(&self, from: Spot) -> Result<(Excerpt, Spot), AllocError>
+        requires { IsIn self.now.text.now from }
+        ensures { Makes self.now.text.now from result
+            (run (has Class.Digit) (here self.now.text.now from), after_run (has Class.Digit) (here self.now.text.now from)) }
+    {
+        let end = self.after_run(from, Class::Digit);
+        Ok((self.excerpt(from.place, end.place)?, end))
     }
 
     /// The place after the byte here, which must be `expected`; otherwise the reader stops with `fault`.

@@ -12,6 +12,7 @@ use crate::boundaries::{count_below, last_boundary};
 use crate::items::Items;
 use crate::reader::Reader;
 use crate::spot::Spot;
+use bt_text::Excerpt;
 use std::alloc::{AllocError, Global};
 
 /// A splice of a text: `inserted` bytes replaced those from `begin` up to `end`.
@@ -62,9 +63,13 @@ impl Items {
         let old = self.pieces();
         let kept = count_below(old, splice.begin);
         let from = last_boundary(old, kept);
+        let no_source = Excerpt::copied(alloc, b"")?;
         let reader = Reader {
             alloc,
             text: new_text,
+            keeps: true,
+            source: &no_source,
+            offset: 0,
             known: &[],
         };
         let none = Items::new(alloc);

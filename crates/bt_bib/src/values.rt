@@ -10,7 +10,6 @@ ghost use Rattle.bt_bib.specs.inner.Cases.{raw_part};
 use crate::fault::{ItemFault, NameRole};
 use crate::item::{Closing, Part};
 use crate::reader::Reader;
-use crate::scan::Class;
 use crate::spot::Spot;
 use crate::stop::ReadStop;
 use crate::value_parts::ValueParts;
@@ -31,7 +30,7 @@ impl Reader<'_> {
             let (found, end) = self.enclosed(self.after_byte(from), b'"')?;
             Ok((Part::Text(found), self.after_byte(end)))
         } else if is_digit(byte) {
-            let (found, end) = self.run(from, Class::Digit)?;
+            let (found, end) = self.digits(from)?;
             Ok((Part::Text(found), end))
         } else if is_name_byte(byte) {
             let signs = [b',', b'#', close.sign()];

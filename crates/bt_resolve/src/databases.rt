@@ -24,7 +24,7 @@ use crate::reader::Reader;
 use crate::reading::{Reach, Reading};
 use crate::store::Store;
 use bt_bib::{Content, Items, Piece, PieceCursor, PlacedPiece};
-use bt_text::{Bytes, Sequence, Shared};
+use bt_text::{Bytes, Excerpt, Sequence, Shared};
 use std::alloc::{AllocError, Global};
 
 impl Reader<'_, '_> {
@@ -191,14 +191,15 @@ fn read_text(
     alloc: Global,
     asked: &Asked<'_>,
     database: usize,
-    text: &[u8],
+    text: &Shared<Bytes>,
     reading: &mut Reading,
 ) -> Result<(), AllocError>
     requires { IsTrue (are_apart asked.now.fields) }
     ensures { OnOk result (state_of reading.new
         ≡ after_items asked.now database (state_of reading.old) (items_of (pieces_of text.now))) }
 {
-    let mut left = PieceCursor::of(alloc, text)?;
+    let text = Excerpt::of(text.share()?);
+    let mut left = PieceCursor::of(alloc, &text)?;
     let reader = DatabaseReader {
         alloc,
         asked: &*asked,
@@ -225,7 +226,7 @@ pub fn read_texts(
         (map (λ text. items_of (pieces_of text)) texts.now)) }
 {
     'texts: for i in 0..texts.len() {
-        read_text(alloc, asked, i + 1, texts[i].as_slice(), reading)?;
+        read_text(alloc, asked, i + 1, &texts[i], reading)?;
     }
     Ok(())
 }

@@ -22,7 +22,7 @@ use crate::stored::Stored;
 use crate::warnings::no_function;
 use bt_bib::Entry;
 use bt_log::Message;
-use bt_text::{ByName, Bytes, Sequence, Shared, to_ascii_lowercase};
+use bt_text::{ByName, Bytes, Sequence, Shared, is_ascii_lowercase, to_ascii_lowercase};
 use std::alloc::{AllocError, Global};
 
 /// The type of an entry, as written.
@@ -35,16 +35,26 @@ pub fn kind_of(entry: &Entry) -> &[u8]
     }
 }
 
+/// The type of an entry in small letters; shared if it has no capitals.
+fn small_kind(alloc: Global, entry: &Entry) -> Result<Shared<Bytes>, AllocError>
+    ensures { IfOk result (λ kind. kind ≡ folded (kind_of entry.now)) }
+{
+    match &entry.kind {
+        Some(kind) if is_ascii_lowercase(kind.as_slice()) => kind.share(),
+        _ => Shared::new(alloc, to_ascii_lowercase(alloc, kind_of(entry))?),
+    }
+}
+
 fn with_given(
     alloc: Global,
     key: &Shared<Bytes>,
-    kind: &[u8],
+    entry: &Entry,
     function: Option<usize>,
     given: Given,
 ) -> Result<Stored, AllocError>
     ensures { IfOk result (λ stored. stored ≡ record {
       key = key.now;
-      kind = folded kind.now;
+      kind = folded (kind_of entry.now);
       function = function;
       crossref = given.crossref;
       values = given.values;
@@ -53,7 +63,7 @@ fn with_given(
     let values = given.values.into_shared(alloc)?;
     Ok(Stored {
         key: key.share()?,
-        kind: Shared::new(alloc, to_ascii_lowercase(alloc, kind)?)?,
+        kind: small_kind(alloc, entry)?,
         function,
         crossref: given.crossref,
         values,
@@ -131,7 +141,7 @@ impl Reader<'_, '_> {
         let function = self.asked.types.place(self.alloc, kind)?;
         self.tell_type(function, key.as_slice(), messages)?;
         let given = self.given(entry, key.as_slice(), macros, messages)?;
-        with_given(self.alloc, key, kind, function, given)
+        with_given(self.alloc, key, entry, function, given)
     }
 
     /// The same, from an earlier resolution if it is known there.

@@ -4,7 +4,6 @@ ghost use Rattle.std.specs.Prelude.{◌≡◌, ◌++◌, IfOk, OnOk, codes};
 ghost use Rattle.bt_resolve.specs.Faults.{fault_error, fault_words, repeated, unclosed_command, unclosed_entry, what_name, dropped_name};
 ghost use Rattle.bt_resolve.specs.inner.Cases.{sign_of, fault_messages, key_of, unclosed};
 
-use crate::inheritance::shared;
 use crate::messages::add_message;
 use crate::reader::Reader;
 use bt_bib::{Closing, Content, ItemFault, NameRole};
@@ -99,7 +98,10 @@ fn key_of(content: &Content) -> Result<Option<Shared<Bytes>>, AllocError>
     ensures { IfOk result (λ key. key ≡ key_of content.now) }
 {
     match content {
-        Content::Entry(entry) => shared(&entry.key),
+        Content::Entry(entry) => match &entry.key {
+            None => Ok(None),
+            Some(key) => Ok(Some(key.share()?)),
+        },
         Content::Define(_) | Content::Preamble(_) => Ok(None),
     }
 }

@@ -20,7 +20,7 @@ use crate::values::{ValueReader, trimmed};
 use crate::warnings::extra_field;
 use bt_bib::Field;
 use bt_log::Message;
-use bt_text::{ByName, Bytes, Sequence, Shared, SparseTexts, eq_ignore_ascii_case};
+use bt_text::{ByName, Excerpt, Sequence, SparseTexts, eq_ignore_ascii_case};
 use std::alloc::{AllocError, Global};
 
 /// The field that refers to another entry.
@@ -31,7 +31,7 @@ pub const CROSSREF: &[u8] = b"crossref";
 pub struct Given {
     /// The values in the order of the style's fields, without the value of `crossref`.
     pub values: FieldValues,
-    pub crossref: Option<Shared<Bytes>>,
+    pub crossref: Option<Excerpt>,
 }
 
 /// Where the value of a declared field goes.
@@ -74,7 +74,7 @@ fn is_filled(given: &Given, slot: Slot) -> bool
     }
 }
 
-fn fill(given: &mut Given, slot: Slot, value: Shared<Bytes>) -> Result<(), AllocError>
+fn fill(given: &mut Given, slot: Slot, value: Excerpt) -> Result<(), AllocError>
     ensures { OnOk result (given.new ≡ fill slot value given.old) }
 {
     match slot {
@@ -100,11 +100,7 @@ impl FieldReader<'_> {
     }
 
     #[tactic(auto, unfolding(crate::specs::Values::field_value))]
-    fn value(
-        &self,
-        field: &Field,
-        messages: &mut Sequence<Message>,
-    ) -> Result<Shared<Bytes>, AllocError>
+    fn value(&self, field: &Field, messages: &mut Sequence<Message>) -> Result<Excerpt, AllocError>
         ensures value { IfOk result (λ text. text ≡ text_of_field self.now field.now) }
         ensures messages { OnOk result (messages.new ≡ messages.old ++ warnings_of_field self.now field.now) }
     {
@@ -162,8 +158,11 @@ impl FieldReader<'_> {
             fields.now) }
         ensures messages { OnOk result (messages.new ≡ messages.old ++ messages_of_fields self.now fields.now) }
     {
+        let count = self.declared.names().len();
+        let mut values = SparseTexts::new(self.alloc, count);
+        values.reserve(fields.len().min(count))?;
         let mut given = Given {
-            values: SparseTexts::new(self.alloc, self.declared.names().len()),
+            values,
             crossref: None,
         };
         'fields: for field in fields {

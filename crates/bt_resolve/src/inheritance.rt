@@ -11,11 +11,11 @@ ghost use Rattle.bt_resolve.specs.inner.Inheritance.{all_inherit, inherits_at, v
 use crate::current_values::CurrentValues;
 use crate::family::Family;
 use crate::stored::{FieldValues, Stored};
-use bt_text::{Bytes, Shared};
+use bt_text::{Excerpt, Shared};
 use std::alloc::{AllocError, Global};
 
 /// A value that may be missing, shared.
-pub fn shared(value: &Option<Shared<Bytes>>) -> Result<Option<Shared<Bytes>>, AllocError>
+pub fn shared(value: &Option<Excerpt>) -> Result<Option<Excerpt>, AllocError>
     ensures { IfOk result (λ same. same ≡ value.now) }
 {
     match value {

@@ -7,14 +7,14 @@ ghost use Rattle.std.specs.Prelude.{◌≡◌, [], ◌++◌, IfOk, OnOk};
 ghost use Rattle.bt_text.specs.White.{white_joined};
 
 use crate::macro_text::MacroText;
-use bt_text::{Bytes, Shared, is_white_joined, join_white};
+use bt_text::{Bytes, Excerpt, Shared, is_white_joined, join_white};
 use std::alloc::{AllocError, Global};
 use std::marker::Model;
 
 #[derive(Drop)]
 enum Holder {
     /// The text of one part, shared with it.
-    Text(Shared<Bytes>),
+    Text(Excerpt),
     /// The text of one macro, shared with it.
     Macro(MacroText),
     /// Bytes joined from several parts.
@@ -37,15 +37,22 @@ impl Model for JoinedParts {
     ghost view = { λ joined. bytes_of joined.holder };
 }
 
+/// A copy of a text with each run of white space replaced by one space.
+fn joined_copy(alloc: Global, text: &[u8]) -> Result<Excerpt, AllocError>
+    ensures { IfOk result (λ joined. joined ≡ white_joined text.now) }
+{
+    let joined = join_white(alloc, text)?;
+    Ok(Excerpt::of(Shared::new(alloc, joined)?))
+}
+
 /// A text with each run of white space replaced by one space. It is shared if each is one space already.
-fn white_joined(alloc: Global, text: Shared<Bytes>) -> Result<Shared<Bytes>, AllocError>
+fn white_joined(alloc: Global, text: Excerpt) -> Result<Excerpt, AllocError>
     ensures { IfOk result (λ joined. joined ≡ white_joined text) }
 {
     if is_white_joined(text.as_slice()) {
         return Ok(text);
     }
-    let joined = join_white(alloc, text.as_slice())?;
-    Shared::new(alloc, joined)
+    joined_copy(alloc, text.as_slice())
 }
 
 impl JoinedParts {
@@ -59,7 +66,7 @@ impl JoinedParts {
     }
 
     /// The text of one part. It is not copied.
-    pub fn of_text(text: &Shared<Bytes>) -> Result<Self, AllocError>
+    pub fn of_text(text: &Excerpt) -> Result<Self, AllocError>
         ensures { IfOk result (λ part. part ≡ text.now) }
     {
         Ok(JoinedParts {
@@ -114,14 +121,14 @@ impl JoinedParts {
 
     /// The text with each run of white space replaced by one space. The text of a single part is not copied if no run
     /// has to be replaced.
-    pub fn into_value(self, alloc: Global) -> Result<Shared<Bytes>, AllocError>
+    pub fn into_value(self, alloc: Global) -> Result<Excerpt, AllocError>
         ensures { IfOk result (λ value. value ≡ white_joined self) }
     {
         let JoinedParts { holder } = self;
         match holder {
             Holder::Text(text) => white_joined(alloc, text),
             Holder::Macro(text) => Ok(text.into_value()),
-            Holder::Own(text) => Shared::new(alloc, join_white(alloc, text.as_slice())?),
+            Holder::Own(text) => joined_copy(alloc, text.as_slice()),
         }
     }
 }

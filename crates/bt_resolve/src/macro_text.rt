@@ -6,16 +6,16 @@
 ghost use Rattle.std.specs.Prelude.{◌≡◌, IfOk};
 ghost use Rattle.bt_text.specs.White.{white_joined};
 
-use bt_text::{Bytes, Shared, is_white_joined, join_white};
+use bt_text::{Excerpt, Shared, is_white_joined, join_white};
 use std::alloc::{AllocError, Global};
 use std::marker::Model;
 
 /// The text of a macro, shared, with the value of a field that is only this macro. Contracts see the text.
 #[derive(Drop)]
 pub struct MacroText {
-    text: Shared<Bytes>,
+    text: Excerpt,
     /// The text with each run of white space made one space.
-    value: Shared<Bytes>,
+    value: Excerpt,
 }
 
 impl Model for MacroText {
@@ -34,17 +34,17 @@ impl MacroText {
     pub fn new(alloc: Global, text: &[u8]) -> Result<Self, AllocError>
         ensures { IfOk result (λ copy. copy ≡ text.now) }
     {
-        let value = Shared::new(alloc, join_white(alloc, text)?)?;
+        let value = Excerpt::of(Shared::new(alloc, join_white(alloc, text)?)?);
         let text = if is_white_joined(text) {
             value.share()?
         } else {
-            Shared::<Bytes>::copied(alloc, text)?
+            Excerpt::copied(alloc, text)?
         };
         Ok(MacroText { text, value })
     }
 
     /// The text of a value, in which each run of white space is one space. It is not copied.
-    pub fn of_value(value: Shared<Bytes>) -> Result<Self, AllocError>
+    pub fn of_value(value: Excerpt) -> Result<Self, AllocError>
         requires { white_joined value ≡ value }
         ensures { IfOk result (λ text. text ≡ value) }
     {
@@ -71,7 +71,7 @@ impl MacroText {
     }
 
     /// The text with each run of white space made one space.
-    pub fn into_value(self) -> Shared<Bytes>
+    pub fn into_value(self) -> Excerpt
         ensures { result ≡ white_joined self }
     {
         let MacroText { text: _, value } = self;

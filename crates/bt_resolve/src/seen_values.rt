@@ -7,7 +7,7 @@ ghost use Rattle.std.specs.Prelude.{◌≡◌, [], true, slice_set, None, IfOk};
 ghost use Rattle.std.specs.List.{slice_index_or};
 
 use crate::stored::FieldValues;
-use bt_text::{Bytes, Shared, SparseTexts};
+use bt_text::{Excerpt, Shared, SparseTexts};
 use std::alloc::{AllocError, Global};
 
 /// The values of the entry at a place, shared.
@@ -36,7 +36,7 @@ fn is_missing(values: &FieldValues, place: usize) -> bool
 pub fn put_crossref(
     alloc: Global,
     place: usize,
-    name: Option<Shared<Bytes>>,
+    name: Option<Excerpt>,
     values: Shared<FieldValues>,
 ) -> Result<Shared<FieldValues>, AllocError>
     ensures { IfOk result (λ all. all ≡ slice_set values place name) }

@@ -1,6 +1,6 @@
 //! Stored entries.
 
-use bt_text::{Bytes, Shared, SparseTexts};
+use bt_text::{Bytes, Excerpt, Shared, SparseTexts};
 
 /// Values in the order of the style's fields; none for a missing field.
 pub type FieldValues = SparseTexts;
@@ -15,7 +15,7 @@ pub struct Stored {
     /// The index of its type among the types that have a function; none if it isn't one of them.
     pub function: Option<usize>,
     /// The key in its field `crossref`.
-    pub crossref: Option<Shared<Bytes>>,
+    pub crossref: Option<Excerpt>,
     /// Its values, in the order of the style's fields, without the value of `crossref`.
     pub values: Shared<FieldValues>,
 }

@@ -17,7 +17,7 @@ use crate::place::Origin;
 use crate::warnings::{own_macro, too_long, undefined_macro};
 use bt_bib::Part;
 use bt_log::Message;
-use bt_text::{ByName, Bytes, Sequence, Shared, TEXT_BYTES, eq_ignore_ascii_case};
+use bt_text::{ByName, Excerpt, Sequence, TEXT_BYTES, eq_ignore_ascii_case};
 use std::alloc::{AllocError, Global};
 
 /// What the reader of a value needs.
@@ -150,7 +150,7 @@ impl<'a> ValueReader<'a> {
         name: &[u8],
         line: usize,
         messages: &mut Sequence<Message>,
-    ) -> Result<Shared<Bytes>, AllocError>
+    ) -> Result<Excerpt, AllocError>
         ensures value { IfOk result (λ text. text ≡ joined_or_empty joined) }
         ensures messages { OnOk result (messages.new ≡ messages.old
             ++ length_warnings joined (line_at self.now.origin line) name.now) }
@@ -161,7 +161,7 @@ impl<'a> ValueReader<'a> {
                     messages,
                     too_long(self.alloc, self.origin.place(line), name)?,
                 )?;
-                Shared::new(self.alloc, Bytes::new(self.alloc))
+                Excerpt::copied(self.alloc, b"")
             }
             Some(joined) => joined.into_value(self.alloc),
         }
@@ -175,7 +175,7 @@ impl<'a> ValueReader<'a> {
         line: usize,
         parts: &[Part],
         messages: &mut Sequence<Message>,
-    ) -> Result<Shared<Bytes>, AllocError>
+    ) -> Result<Excerpt, AllocError>
         ensures value { IfOk result (λ text. text
             ≡ value (macros_for self.now) parts.now) }
         ensures messages { OnOk result (messages.new ≡ messages.old
@@ -206,13 +206,15 @@ fn without_last_space(text: &[u8]) -> &[u8]
     }
 }
 
-/// A text without the spaces at its ends. It is not copied if it has none.
-pub fn trimmed(alloc: Global, text: Shared<Bytes>) -> Result<Shared<Bytes>, AllocError>
+/// A text without one space at each end. Nothing is copied.
+pub fn trimmed(alloc: Global, text: Excerpt) -> Result<Excerpt, AllocError>
     ensures { IfOk result (λ trimmed. trimmed ≡ without_last_space (without_first_space text)) }
 {
-    let inside = without_last_space(without_first_space(text.as_slice()));
+    let rest = without_first_space(text.as_slice());
+    let inside = without_last_space(rest);
     if inside.len() < text.len() {
-        Shared::<Bytes>::copied(alloc, inside)
+        let start = text.len().saturating_sub(rest.len());
+        text.part(alloc, start, inside)
     } else {
         Ok(text)
     }

@@ -21,7 +21,7 @@ use crate::references::spelled;
 use crate::seen_edit::MadeEntry;
 use crate::seen_values::put_crossref;
 use crate::stored::{FieldValues, Stored};
-use bt_text::{Bytes, Sequence, Shared, equal_bytes};
+use bt_text::{Bytes, Excerpt, Sequence, Shared, equal_bytes};
 use std::alloc::{AllocError, Global};
 
 /// The entries that the style sees, and their places among the stored ones.
@@ -92,7 +92,7 @@ impl View<'_> {
 
     /// The final field `crossref` of an entry: missing if no entry has that key, or if that entry is left out.
     #[tactic(auto, unfolding(crate::specs::Inherited::final_crossref))]
-    fn final_crossref(&self, entry: &Stored) -> Result<Option<Shared<Bytes>>, AllocError>
+    fn final_crossref(&self, entry: &Stored) -> Result<Option<Excerpt>, AllocError>
         ensures { IfOk result (λ name. name
             ≡ final_crossref self.now.asked.now self.now.min self.now.family.now entry.now) }
     {

@@ -5,8 +5,7 @@ ghost use Rattle.std.specs.List.{list_all};
 ghost use Rattle.bt_text.specs.Sparse.{filled_from};
 ghost use Rattle.bt_text.specs.inner.Merging.{below, above, merged, same_present, place_at, same_text, IsGap, IsAt, IsInOrder};
 
-use crate::bytes::Bytes;
-use crate::shared::Shared;
+use crate::excerpt::Excerpt;
 use std::alloc::{AllocError, Global};
 use std::marker::Model;
 
@@ -16,10 +15,11 @@ use std::marker::Model;
 pub struct PlacedTexts {
     /// How long the list is, with the texts that are missing.
     count: usize,
-    /// A bit for each of the first 64 places (the bits of a word) that has a text. It's only a hint: `search` checks it.
+    /// A bit for each of the first 64 places (the bits of a word) that has a text, or for which `put` ran out of memory.
+    /// It's only a hint: `search` checks it.
     marks: u64,
     /// The texts that are there with their places, which rise.
-    present: Vec<(usize, Shared<Bytes>)>,
+    present: Vec<(usize, Excerpt)>,
 }
 
 impl Model for PlacedTexts {
@@ -69,8 +69,15 @@ impl PlacedTexts {
         self.present.as_slice().is_empty()
     }
 
+    /// Makes room for so many texts more. After out of memory nothing has changed.
+    pub fn reserve(&mut self, more: usize) -> Result<(), AllocError>
+        ensures { self.new ≡ self.old }
+    {
+        self.present.reserve(more)
+    }
+
     /// The text of a place, if it is there.
-    pub fn get(&self, place: usize) -> Option<&Shared<Bytes>>
+    pub fn get(&self, place: usize) -> Option<&Excerpt>
         ensures { option_copied result ≡ slice_index_or self.now place None }
     {
         match search(self.present.as_slice(), self.marks, place) {
@@ -80,7 +87,7 @@ impl PlacedTexts {
     }
 
     /// A place after the end stays as it is.
-    fn put(&mut self, place: usize, text: Shared<Bytes>) -> Result<(), AllocError>
+    fn put(&mut self, place: usize, text: Excerpt) -> Result<(), AllocError>
         ensures ok { OnOk result (self.new ≡ slice_set self.old place (Some text)) }
         ensures err { OnErr result (self.new ≡ self.old) }
     {
@@ -108,7 +115,7 @@ impl PlacedTexts {
 
     /// Puts a text in a place, or takes away the one that is there; a place after the end stays as it is. The one error
     /// is out of memory; all texts are then as before.
-    pub fn set(&mut self, place: usize, text: Option<Shared<Bytes>>) -> Result<(), AllocError>
+    pub fn set(&mut self, place: usize, text: Option<Excerpt>) -> Result<(), AllocError>
         ensures ok { OnOk result (self.new ≡ slice_set self.old place text) }
         ensures err { OnErr result (self.new ≡ self.old) }
     {
@@ -165,14 +172,14 @@ fn marks_before(marks: u64, place: usize) -> usize {
     (marks & mark(place).wrapping_sub(1)).count_ones() as usize
 }
 
-fn is_after_others(present: &[(usize, Shared<Bytes>)], place: usize, at: usize) -> bool
+fn is_after_others(present: &[(usize, Excerpt)], place: usize, at: usize) -> bool
     requires { at ≤ length present.now }
     ensures { IsTrue result → 0 < at → place_at present.now (at - 1) < place }
 {
     at == 0 || present[at - 1].0 < place
 }
 
-fn is_before_others(present: &[(usize, Shared<Bytes>)], place: usize, at: usize) -> bool
+fn is_before_others(present: &[(usize, Excerpt)], place: usize, at: usize) -> bool
     requires { at ≤ length present.now }
     ensures { IsTrue result → at < length present.now → place < place_at present.now at }
 {
@@ -180,7 +187,7 @@ fn is_before_others(present: &[(usize, Shared<Bytes>)], place: usize, at: usize)
 }
 
 /// Where the text of a place is, or where it would go. The marks tell where, unless the place is a late one.
-fn search(present: &[(usize, Shared<Bytes>)], marks: u64, place: usize) -> Result<usize, usize>
+fn search(present: &[(usize, Excerpt)], marks: u64, place: usize) -> Result<usize, usize>
     requires { IsInOrder present.now }
     ensures found { IfOk result (IsAt present.now place) }
     ensures absent { IfErr result (IsGap present.now place) }
@@ -198,10 +205,7 @@ fn search(present: &[(usize, Shared<Bytes>)], marks: u64, place: usize) -> Resul
     present.binary_search_by_key(&place, |there| there.0)
 }
 
-fn copied(
-    alloc: Global,
-    present: &[(usize, Shared<Bytes>)],
-) -> Result<Vec<(usize, Shared<Bytes>)>, AllocError>
+fn copied(alloc: Global, present: &[(usize, Excerpt)]) -> Result<Vec<(usize, Excerpt)>, AllocError>
     ensures { IfOk result (λ same. same.items ≡ present.now) }
 {
     let mut same = Vec::with_capacity(alloc, present.len())?;
@@ -213,10 +217,10 @@ fn copied(
 
 /// Puts those whose places are below one after the others, and gives those that stand after it.
 fn put_below<'a>(
-    others: &'a [(usize, Shared<Bytes>)],
+    others: &'a [(usize, Excerpt)],
     place: usize,
-    all: &mut Vec<(usize, Shared<Bytes>)>,
-) -> Result<&'a [(usize, Shared<Bytes>)], AllocError>
+    all: &mut Vec<(usize, Excerpt)>,
+) -> Result<&'a [(usize, Excerpt)], AllocError>
     ensures all { OnOk result (all.new.items ≡ all.old.items ++ below place others.now) }
     ensures behind { IfOk result (λ rest. rest.now ≡ above place others.now) }
 {
@@ -237,9 +241,9 @@ fn put_below<'a>(
 fn merged(
     alloc: Global,
     count: usize,
-    texts: &[(usize, Shared<Bytes>)],
-    others: &[(usize, Shared<Bytes>)],
-) -> Result<Vec<(usize, Shared<Bytes>)>, AllocError>
+    texts: &[(usize, Excerpt)],
+    others: &[(usize, Excerpt)],
+) -> Result<Vec<(usize, Excerpt)>, AllocError>
     ensures { IfOk result (λ all. all.items ≡ merged count texts.now others.now) }
 {
     let mut all = Vec::new(alloc);
@@ -252,13 +256,13 @@ fn merged(
     Ok(all)
 }
 
-fn same_text(text: &(usize, Shared<Bytes>), other: &(usize, Shared<Bytes>)) -> bool
+fn same_text(text: &(usize, Excerpt), other: &(usize, Excerpt)) -> bool
     ensures { result ≡ same_text text.now other.now }
 {
     text.0 == other.0 && text.1.as_slice() == other.1.as_slice()
 }
 
-fn same_present(texts: &[(usize, Shared<Bytes>)], others: &[(usize, Shared<Bytes>)]) -> bool
+fn same_present(texts: &[(usize, Excerpt)], others: &[(usize, Excerpt)]) -> bool
     ensures { result ≡ same_present texts.now others.now }
 {
     if texts.len() != others.len() {

@@ -8,7 +8,7 @@ ghost use Rattle.std.specs.Prelude.{◌≡◌, ◌↔◌, IsTrue, length, replic
 ghost use Rattle.std.specs.List.{list_all};
 ghost use Rattle.bt_text.specs.Sparse.{filled_from};
 
-use crate::bytes::Bytes;
+use crate::excerpt::Excerpt;
 use crate::places::PlacedTexts;
 use crate::shared::Shared;
 use std::alloc::{AllocError, Global};
@@ -88,7 +88,7 @@ fn filled(
     }
 }
 
-fn same_text(text: Option<&Shared<Bytes>>, other: Option<&Shared<Bytes>>) -> bool
+fn same_text(text: Option<&Excerpt>, other: Option<&Excerpt>) -> bool
     ensures { IsTrue result ↔ option_copied text.entry ≡ option_copied other.entry }
 {
     match (text, other) {
@@ -108,6 +108,13 @@ impl SparseTexts {
             own: PlacedTexts::new(alloc, count),
             base: None,
         }
+    }
+
+    /// Makes room for so many texts more. After out of memory nothing has changed.
+    pub fn reserve(&mut self, more: usize) -> Result<(), AllocError>
+        ensures { self.new ≡ self.old }
+    {
+        self.own.reserve(more)
     }
 
     /// How long the list is.
@@ -131,7 +138,7 @@ impl SparseTexts {
 
     /// The text of a place, if it is there.
     #[tactic(auto, using(crate::proofs::LayerLemmas::filled_get, crate::proofs::LayerLemmas::filled_none))]
-    pub fn get(&self, place: usize) -> Option<&Shared<Bytes>>
+    pub fn get(&self, place: usize) -> Option<&Excerpt>
         ensures { option_copied result ≡ slice_index_or self.now place None }
     {
         match (self.own.get(place), &self.base) {
@@ -174,7 +181,7 @@ impl SparseTexts {
     /// Puts a text in a place, or takes away the one that is there; a place after the end stays as it is. The one error
     /// is out of memory; all texts are then as before.
     #[tactic(auto, using(crate::proofs::LayerLemmas::filled_put))]
-    pub fn set(&mut self, place: usize, text: Option<Shared<Bytes>>) -> Result<(), AllocError>
+    pub fn set(&mut self, place: usize, text: Option<Excerpt>) -> Result<(), AllocError>
         ensures ok { OnOk result (self.new ≡ slice_set self.old place text) }
         ensures err { OnErr result (self.new ≡ self.old) }
     {

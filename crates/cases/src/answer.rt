@@ -1,7 +1,7 @@
 //! An answer while it is built, and how values are spelled in it: texts in hexadecimal, `-` for the empty text, numbers
 //! in decimal, `.` for a missing value.
 
-use bt_text::{Bytes, Shared};
+use bt_text::{Bytes, Excerpt, Shared};
 use std::alloc::{AllocError, Global};
 use std::fmt::Display;
 
@@ -52,6 +52,12 @@ impl Spelled for Bytes {
 }
 
 impl Spelled for Shared<Bytes> {
+    fn spell(&self, out: &mut Answer) {
+        self.as_slice().spell(out);
+    }
+}
+
+impl Spelled for Excerpt {
     fn spell(&self, out: &mut Answer) {
         self.as_slice().spell(out);
     }

@@ -4,7 +4,7 @@
 use crate::Done;
 use crate::answer::{Answer, Spelled};
 use crate::words::Words;
-use bt_text::{Bytes, Shared, SparseTexts};
+use bt_text::{Excerpt, Shared, SparseTexts};
 use std::alloc::{AllocError, Global};
 
 fn shared(alloc: Global, list: &SparseTexts) -> Result<SparseTexts, AllocError> {
@@ -25,7 +25,7 @@ fn made(step: Words<'_>, lists: &[SparseTexts]) -> Result<Option<SparseTexts>, A
     }
 }
 
-fn set_all(list: &mut SparseTexts, text: &Shared<Bytes>) -> Done {
+fn set_all(list: &mut SparseTexts, text: &Excerpt) -> Done {
     for place in 0..list.len() {
         list.set(place, Some(text.share()?))?;
     }
@@ -35,8 +35,8 @@ fn set_all(list: &mut SparseTexts, text: &Shared<Bytes>) -> Done {
 /// Changes a list: a text at one place, one at every place, or none at one place.
 fn change(step: Words<'_>, list: &mut SparseTexts) -> Done {
     match step.word(0) {
-        "set" => list.set(step.count(2), Some(step.shared(3)?)),
-        "set_all" => set_all(list, &step.shared(2)?),
+        "set" => list.set(step.count(2), Some(Excerpt::of(step.shared(3)?))),
+        "set_all" => set_all(list, &Excerpt::of(step.shared(2)?)),
         "clear" => list.set(step.count(2), None),
         _ => Ok(()),
     }
@@ -51,7 +51,7 @@ fn carry_out(step: Words<'_>, lists: &mut Vec<SparseTexts>) -> Done {
     Ok(())
 }
 
-impl Spelled for &Shared<Bytes> {
+impl Spelled for &Excerpt {
     fn spell(&self, out: &mut Answer) {
         self.as_slice().spell(out);
     }

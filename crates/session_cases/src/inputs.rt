@@ -2,7 +2,7 @@
 
 use bt_machine::{Entry, Input, TwoInputs, Variables, agrees};
 use bt_style::{Builtin, Reach, Style, Target, read_style};
-use bt_text::{Bytes, Held, Shared, SparseTexts, Values};
+use bt_text::{Bytes, Excerpt, Held, Shared, SparseTexts, Values};
 use std::alloc::{AllocError, Global};
 
 const STYLE: &[u8] =
@@ -26,8 +26,8 @@ fn variables(alloc: Global) -> Result<Shared<Variables>, AllocError> {
 
 fn fields(alloc: Global, title: &str, note: &str) -> Result<Shared<SparseTexts>, AllocError> {
     let mut fields = SparseTexts::new(alloc, 3);
-    fields.set(1, Some(text(alloc, title)?))?;
-    fields.set(2, Some(text(alloc, note)?))?;
+    fields.set(1, Some(Excerpt::of(text(alloc, title)?)))?;
+    fields.set(2, Some(Excerpt::of(text(alloc, note)?)))?;
     Shared::new(alloc, fields)
 }
 

@@ -10,7 +10,6 @@ use Rattle.bt_bib.specs.Scan.{after_run, after_white, closing_sign, first, is_ke
 use Rattle.bt_bib.specs.Spot.{Here, after_byte}
 use Rattle.bt_bib.specs.Stop.{Stop, value_read, ◌>>=◌}
 use Rattle.bt_bib.specs.Values.{part, part_ends, value}
-use Rattle.bt_bib.specs.declared.aux_argument.AuxFault.{AuxFault}
 use Rattle.bt_bib.specs.declared.aux_line.AuxItem.{AuxItem}
 use Rattle.bt_bib.specs.declared.aux_line.Command.{Command}
 use Rattle.bt_bib.specs.declared.fault.ItemFault.{ItemFault}

@@ -1,7 +1,7 @@
 //! What grows: texts, lists, tables of names, and the held line.
 
 use crate::refused::attempt::Case;
-use bt_text::{ByName, Bytes, Held, HeldFault, NameList, Sequence, Shared, SparseTexts};
+use bt_text::{ByName, Bytes, Excerpt, Held, HeldFault, NameList, Sequence, SparseTexts};
 use std::alloc::{AllocError, Global};
 
 /// Longer than all that is there before it, and than a line.
@@ -60,12 +60,12 @@ fn values(alloc: Global) -> Result<ByName<usize>, AllocError> {
 
 fn texts(alloc: Global) -> Result<SparseTexts, AllocError> {
     let mut texts = SparseTexts::new(alloc, 12);
-    texts.set(3, Some(Shared::<Bytes>::copied(alloc, b"text")?))?;
+    texts.set(3, Some(Excerpt::copied(alloc, b"text")?))?;
     Ok(texts)
 }
 
 fn set(alloc: Global, texts: &mut SparseTexts) -> Result<(), AllocError> {
-    let line = Shared::<Bytes>::copied(alloc, LINE)?;
+    let line = Excerpt::copied(alloc, LINE)?;
     texts.set(9, Some(line))
 }
 

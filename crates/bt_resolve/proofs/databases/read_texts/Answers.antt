@@ -1,8 +1,5 @@
-use Rattle.std.proofs.Common.{refl, ap, sym, ◌∙◌, ◌+◌, ◌∷◌, List, drop, ℕ}
+use Rattle.std.proofs.Common.{refl, ap, sym, ◌∙◌, ◌+◌, ◌∷◌, drop}
 use Rattle.std.proofs.lemmas.List.{drop_more, drop_all}
-use Rattle.bt_bib.specs.BibText.{pieces_of}
-use Rattle.bt_bib.specs.Items.{items_of}
-use Rattle.bt_resolve.specs.inner.Databases.{after_items, state_of}
 use Rattle.bt_resolve.proofs.ReadingLemmas.{texts_next, texts_done}
 use Rattle.bt_resolve.proofs.databases.read_texts.Goals as goal
 
@@ -12,7 +9,7 @@ texts-preserved c =
     let ts = c.args.texts.now in
     let i = c.texts.i in
     let here = drop_more ts i c.index-texts-i.result c.texts-test.true ∙ ap (λ x. x ∷ drop (i + 1) ts) (sym c.index-texts-i.is) in
-    let read = c.in_ok-read_text.ensures ∙ ap (λ (text : List ℕ). after_items a (i + 1) (state_of c.texts.reading) (items_of (pieces_of text))) (c.as_slice.ensures ∙ c.deref.ensures) in
+    let read = c.in_ok-read_text.ensures in
     texts_next a (i + 1) _ _ _ _ _ _ (drop (i + 1) ts) here refl read c.texts.invariant
 
 pub returns : goal.returns

@@ -44,14 +44,14 @@ returns-in-Some-clause-read c =
     let upto : reread_upto c.args.old_text.now new b e n ≡ stop.place = law.1 ∙ ap (λ v. cond v stop.place (length new)) joint.0 in
     omega (arith, upto, law.2)
 
-pub returns-in-None-clause-edit : goal.returns-in-None-clause-edit
-returns-in-None-clause-edit c =
+pub returns-clause-edit : goal.returns-clause-edit
+returns-clause-edit c =
     let ps = c.pieces-old.result.now in
     edit_end c.args.old_text.now c.args.new_text.now c.args.splice.begin c.args.splice.end c.args.splice.inserted c.count_below-kept.result _ c.args.self.now ps c.new-none.result c.in_ok-new.new c.last_boundary-from.result c.in_ok-new.at c.requires.splice c.pieces-old.ensures c.requires.old
     c.count_below-kept.ensures.within c.count_below-kept.ensures.value c.last_boundary-from.ensures c.new-none.ensures c.in_ok-new.ensures.pieces c.in_ok-new.ensures.ends (c.in_ok-new.ensures.last c.in-None.is)
 
-pub returns-in-None-clause-read : goal.returns-in-None-clause-read
-returns-in-None-clause-read c =
+pub returns-clause-read : goal.returns-clause-read
+returns-clause-read c =
     let ps = c.pieces-old.result.now in
     let new = c.args.new_text.now in
     let b = c.args.splice.begin in

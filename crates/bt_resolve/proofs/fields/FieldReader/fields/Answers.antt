@@ -8,8 +8,8 @@ use Rattle.bt_resolve.proofs.fields.FieldReader.fields.Goals as goal
 
 pub fields-init : goal.fields-init
 fields-init c = record {
-  given = nothing_given c.args.self.now.declared.now (known c.args.self.now.macros.now) c.new.result
-      (c.new.ensures ∙ no_values c.names.result.now ∙ ap (λ (names : List (List ℕ)). map no_value names) c.names.ensures);
+  given = nothing_given c.args.self.now.declared.now (known c.args.self.now.macros.now) c.reserve.new.self
+      (c.reserve.ensures ∙ c.new-values.ensures ∙ no_values c.names-count.result.now ∙ ap (λ (names : List (List ℕ)). map no_value names) c.names-count.ensures);
   messages = refl;
 }
 
