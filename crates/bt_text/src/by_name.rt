@@ -1,12 +1,26 @@
 //! A hashed table of values by names, which match without regard to case.
 
-ghost use Rattle.std.specs.Prelude.{◌≡◌, [], map, ℕ, List, Some, is_some, option_copied, bytes_eq, if◌then◌else◌, IfOk, OnOk, OnErr};
+ghost use Rattle.std.specs.Prelude.{◌≡◌, ◌≤◌, [], length, map, ℕ, List, Some, is_some, option_copied, bytes_eq, if◌then◌else◌, IfOk, OnOk, OnErr};
 ghost use Rattle.bt_text.specs.ByName.{HasRoom, at_small, known, listed, no_value, first_place, with_entry, with_value};
 ghost use Rattle.bt_text.specs.CaseFolding.{folded};
 
 use crate::case_folding::{is_ascii_lowercase, to_ascii_lowercase};
 use indexmap::IndexMap;
 use std::alloc::{AllocError, Global};
+
+/// Names up to this length are folded in a buffer on the stack; few are longer.
+const SHORT_NAME: usize = 64;
+
+/// A name of at most `SHORT_NAME` bytes (64) in small letters, in a buffer.
+fn folded_in<'a>(buffer: &'a mut [u8; SHORT_NAME], name: &[u8]) -> &'a [u8]
+    requires { length name.now ≤ 64 }
+    ensures { result.now ≡ folded name.now }
+{
+    let small = &mut buffer[..name.len()];
+    small.copy_from_slice(name);
+    small.make_ascii_lowercase();
+    small
+}
 
 /// Values by names, in the order in which the names came. Names that differ in case alone are one name.
 ///
@@ -34,6 +48,9 @@ impl<V: Drop> ByName<V> {
     {
         if is_ascii_lowercase(name) {
             return Ok(self.get_small(name));
+        }
+        if name.len() <= SHORT_NAME {
+            return Ok(self.get_small(folded_in(&mut [0; SHORT_NAME], name)));
         }
         let small = to_ascii_lowercase(alloc, name)?;
         Ok(self.get_small(small.as_slice()))
@@ -65,6 +82,9 @@ impl<V: Drop> ByName<V> {
     {
         if is_ascii_lowercase(name) {
             return Ok(self.place_small(name));
+        }
+        if name.len() <= SHORT_NAME {
+            return Ok(self.place_small(folded_in(&mut [0; SHORT_NAME], name)));
         }
         let small = to_ascii_lowercase(alloc, name)?;
         Ok(self.place_small(small.as_slice()))
