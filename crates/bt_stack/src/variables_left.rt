@@ -75,17 +75,37 @@ fn put_texts(
     Ok(())
 }
 
-/// The variables themselves if they have no other owner, otherwise a copy.
-fn owned(alloc: Global, given: Shared<Variables>) -> Result<Variables, AllocError>
-    ensures { IfOk result (λ variables. variables ≡ given) }
+/// The variables themselves if they have no other owner, which leaves `given` empty; otherwise a copy.
+fn taken(alloc: Global, given: &mut Shared<Variables>) -> Result<Variables, AllocError>
+    ensures { IfOk result (λ variables. variables ≡ given.old) }
 {
-    match given.into_sole() {
+    let none = Variables {
+        numbers: Values::new(alloc),
+        texts: Values::new(alloc),
+    };
+    match given.try_replace(none) {
         Ok(variables) => Ok(variables),
-        Err(given) => {
+        Err(_) => {
             let numbers = given.numbers.copied(alloc)?;
             let texts = given.texts.copied(alloc)?;
             Ok(Variables { numbers, texts })
         }
+    }
+}
+
+/// The variables for many owners, in the place of `given` if it has no other owner, so that nothing is allocated;
+/// otherwise in a new one.
+fn settled_in(
+    alloc: Global,
+    given: Shared<Variables>,
+    variables: Variables,
+) -> Result<Shared<Variables>, AllocError>
+    ensures { IfOk result (λ settled. settled ≡ variables) }
+{
+    let mut given = given;
+    match given.try_replace(variables) {
+        Ok(_) => Ok(given),
+        Err(variables) => Shared::new(alloc, variables),
     }
 }
 
@@ -143,9 +163,10 @@ impl VariablesLeft {
         if numbers.is_empty() && texts.len() == 0 {
             return Ok(given);
         }
-        let mut left = owned(alloc, given)?;
+        let mut given = given;
+        let mut left = taken(alloc, &mut given)?;
         put_numbers(alloc, &numbers, &mut left.numbers)?;
         put_texts(alloc, &texts, &mut left.texts)?;
-        Shared::new(alloc, left)
+        settled_in(alloc, given, left)
     }
 }

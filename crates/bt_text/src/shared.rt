@@ -1,11 +1,12 @@
 //! Values with several owners, seen in contracts as the values themselves.
 
-ghost use Rattle.std.specs.Prelude.{◌≡◌, map, IfErr, IfOk, OnOk};
+ghost use Rattle.std.specs.Prelude.{◌≡◌, map, IfErr, IfOk, OnErr, OnOk};
 ghost use Rattle.bt_text.specs.Joined.{joined};
 
 use crate::bytes::Bytes;
 use std::alloc::{AllocError, Global};
 use std::marker::Model;
+use std::mem;
 use std::ops::Deref;
 use std::rc::Rc;
 
@@ -42,15 +43,17 @@ impl<T: Drop> Shared<T> {
 }
 
 impl<T> Shared<T> {
-    /// The value itself if it has no other owner, otherwise this owner again.
-    pub fn into_sole(self) -> Result<T, Self>
-        ensures ok { IfOk result (λ value. value ≡ self) }
-        ensures err { IfErr result (λ shared. shared ≡ self) }
+    /// Replaces the value and returns the old one, if it has no other owner. Otherwise nothing changes, and `value` is
+    /// returned as the error.
+    pub fn try_replace(&mut self, value: T) -> Result<T, T>
+        ensures old { IfOk result (λ old. old ≡ self.old) }
+        ensures new { OnOk result (self.new ≡ value) }
+        ensures err { IfErr result (λ same. same ≡ value) }
+        ensures same { OnErr result (self.new ≡ self.old) }
     {
-        let Shared { value } = self;
-        match Rc::try_unwrap(value) {
-            Ok(value) => Ok(value),
-            Err(value) => Err(Shared { value }),
+        match Rc::get_mut(&mut self.value) {
+            Some(there) => Ok(mem::replace(there, value)),
+            None => Err(value),
         }
     }
 }
