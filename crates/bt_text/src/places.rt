@@ -69,7 +69,7 @@ impl PlacedTexts {
         self.present.as_slice().is_empty()
     }
 
-    /// Makes room for so many texts more. After out of memory nothing has changed.
+    /// Makes room for `more` further texts. If memory runs out, nothing has changed.
     pub fn reserve(&mut self, more: usize) -> Result<(), AllocError>
         ensures { self.new ≡ self.old }
     {

@@ -110,7 +110,7 @@ impl SparseTexts {
         }
     }
 
-    /// Makes room for so many texts more. After out of memory nothing has changed.
+    /// Makes room for `more` further texts. If memory runs out, nothing has changed.
     pub fn reserve(&mut self, more: usize) -> Result<(), AllocError>
         ensures { self.new ≡ self.old }
     {
