@@ -8,8 +8,8 @@ use Rattle.bt_machine.specs.inner.Loop.{is_stop}
 
 abbrev pub outcome_left : Left → List (List ℕ) → Flow → Tally → Outcome
 outcome_left left lines flow tally = record {
-  globals = left.globals;
-  variables = left.variables;
+  globals = left.variables.0;
+  variables = left.variables.1;
   held = left.held;
   lines = lines;
   messages = left.messages;

@@ -11,7 +11,7 @@ use crate::recorder::Recorder;
 use crate::step::{give_up_variables, lend_input, move_back};
 use crate::step_command::StepCommand;
 use bt_actions::{Tally, Variables};
-use bt_machine::{SoundPatterns, run_step, settle_step, sound_patterns, step_depends_on_its_input};
+use bt_machine::{StepTools, run_step, settle_step, step_depends_on_its_input};
 use bt_style::{BUILTIN_COUNT, Style, Target};
 use bt_text::{Bytes, Shared, Values};
 use std::alloc::{AllocError, Global};
@@ -23,8 +23,7 @@ pub struct WrittenSteps {
     pub calls: Calls,
     /// Stands in for the variables that the run gave up.
     others: Shared<Variables>,
-    /// The patterns of the style.
-    patterns: SoundPatterns,
+    tools: StepTools,
 }
 
 impl WrittenSteps {
@@ -38,12 +37,12 @@ impl WrittenSteps {
             texts: Values::new(alloc),
         };
         let others = Shared::new(alloc, others)?;
-        let patterns = sound_patterns(alloc, style)?;
+        let tools = StepTools::of(alloc, style)?;
         Ok(WrittenSteps {
             bbl: Bytes::new(alloc),
             calls: [0; BUILTIN_COUNT],
             others,
-            patterns,
+            tools,
         })
     }
 }
@@ -77,9 +76,9 @@ impl Recorder for WrittenSteps {
         let alloc = job.alloc;
         let input = lend_input(course, target, place);
         let mut tally = Tally::new();
-        let (left, flow) = run_step(alloc, job.style, &self.patterns, input, &mut tally)?;
+        let (left, flow) = run_step(alloc, job.style, &mut self.tools, input, &mut tally)?;
         give_up_variables(alloc, course, place, &self.others)?;
-        let (end, lines) = settle_step(alloc, left, flow)?;
+        let (end, lines) = settle_step(alloc, &mut self.tools, left, flow)?;
         move_back(command, course, place, end)?;
         write_own_lines(&mut self.bbl, lines.as_slice())?;
         add_calls(&mut self.calls, &tally.calls)?;

@@ -1,6 +1,6 @@
 -- Two kept texts become one.
 use Rattle.std.proofs.Common.{◌≡◌, ℕ, ◌+◌, ◌-◌, ◌<◌, ◌≤◌, Bool, true, false, List, ◌∷◌, ◌++◌, length, get_or, take, drop, refl, ap, sym, subst, ◌∙◌, arith, length-append, length-drop}
-use Rattle.std.proofs.lemmas.List.{take_all, take-take, drop-append-le, drop-take, drop-drop, length-take-le, take-append-drop, get_or_default}
+use Rattle.std.proofs.lemmas.List.{drop_at, take_all, take-take, drop-append-le, drop-take, drop-drop, length-take-le, take-append-drop, get_or_default}
 use Rattle.std.proofs.lemmas.List.Elements.{All-set, All-take}
 use Rattle.std.specs.Prelude.{Option, Some, None, set}
 use Rattle.bt_actions.specs.Item.{Item}
@@ -37,6 +37,11 @@ made_joined pool v u start a next b len is_lower is_upper beside lower upper is_
 pub last_part : (pool : List ℕ) (start count : ℕ) → start + count ≡ length pool → drop start pool ≡ part pool start count
 last_part pool start count ends =
     sym (take_all count (drop start pool) (omega (arith, ends, length-drop start pool)))
+
+pub put_last_part : (pool pool' text : List ℕ) → pool' ≡ pool ++ text → part pool' (length pool) (length text) ≡ text
+put_last_part pool pool' text is_pool =
+    ap (λ p. part p (length pool) (length text)) is_pool
+    ∙ ap (take (length text)) (drop_at pool text (length pool) refl) ∙ take_all (length text) text (omega arith)
 
 pub last_joined : (pool middle pool' : List ℕ) (v u : Value) (start len : ℕ) → Grows pool middle → start ≤ length middle → drop start middle ≡ bytes_in pool v → Fits (length pool) u → pool' ≡ middle ++ bytes_in middle u → len ≡ length (bytes_in pool v) + length (bytes_in pool u) → item_in pool' (value.Made start len) ≡ Item.Txt (bytes_in pool v ++ bytes_in pool u)
 last_joined pool middle pool' v u start len grows within last fits is_pool is_len =

@@ -1,3 +1,4 @@
+mod AssignLemmas
 mod CaseLemmas
 mod ChoiceLemmas
 mod FormLemmas

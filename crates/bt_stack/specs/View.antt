@@ -67,8 +67,7 @@ own_variables w = option_map (λ e. e.variables) (entry_of w)
 abbrev pub left_of : World → Left
 left_of w =
     record {
-      globals = w.globals;
-      variables = own_variables w;
+      variables = (w.globals, own_variables w);
       held = w.held;
       lines = w.lines;
       messages = w.messages;

@@ -3,6 +3,7 @@
 ghost use Rattle.std.specs.Prelude.{◌≡◌, option_copied};
 ghost use Rattle.bt_stack.specs.View.{own_begun};
 
+use crate::buffers::StepBuffers;
 use crate::stack::Stack;
 use crate::state::State;
 use bt_actions::{Entry, Variables};
@@ -20,24 +21,35 @@ fn own_begun<'a>(entry: Option<&'a Entry>, globals: &'a Shared<Variables>) -> &'
     }
 }
 
+/// What a step is given, but for its held line.
+#[derive(Clone, Copy)]
+pub struct Given<'a> {
+    pub entry: Option<&'a Entry>,
+    pub globals: &'a Shared<Variables>,
+    pub preamble: &'a [u8],
+    /// Patterns of `format.name$` that are known to have no fault.
+    pub patterns: &'a SoundPatterns,
+}
+
 impl<'a> State<'a> {
     ghost use Rattle.std.specs.Prelude.{◌≡◌, option_copied, OnOk};
     ghost use Rattle.bt_stack.specs.View.{world_of, world_begun};
 
     /// The state before a step for an entry or for none, with the variables of the style. It holds no line, and has no memory
-    /// of its own yet. A result that might be out of memory would be copied, with all of the state, at each step.
-    pub fn begin(
-        alloc: Global,
-        entry: Option<&'a Entry>,
-        globals: &'a Shared<Variables>,
-        preamble: &'a [u8],
-        patterns: &'a SoundPatterns,
-    ) -> State<'a>
-        ensures { world_of result ≡ world_begun (option_copied entry.entry) globals.now preamble.now }
+    /// beside the buffers yet. A result that might be out of memory would be copied, with all of the state, at each step.
+    pub fn begin(alloc: Global, buffers: &mut StepBuffers, given: Given<'a>) -> State<'a>
+        ensures { world_of result
+            ≡ world_begun (option_copied given.entry.entry) given.entry.globals.now given.entry.preamble.now }
     {
+        let Given {
+            entry,
+            globals,
+            preamble,
+            patterns,
+        } = given;
         let own = own_begun(entry, globals);
         State {
-            stack: Stack::new(alloc, globals, own),
+            stack: Stack::new(alloc, buffers, globals, own),
             entry,
             preamble,
             patterns,

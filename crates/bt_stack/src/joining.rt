@@ -1,10 +1,10 @@
 //! How two kept texts become one. The text that was made last ends the pool, so joining a piece to it copies only the
 //! piece: a title of ten pieces isn't copied ten times.
 
-ghost use Rattle.std.specs.Prelude.{◌≡◌, ◌≤◌, ◌++◌, ◌+◌, length, drop, option_map, IfSome, IfOk, OnOk, OnErr};
+ghost use Rattle.std.specs.Prelude.{◌≡◌, true, ◌≤◌, ◌++◌, ◌+◌, length, drop, option_map, IfSome, IfOk, OnOk, OnErr};
 ghost use Rattle.bt_actions.specs.Item.{Txt};
 ghost use Rattle.bt_stack.specs.Tops.{joined_two};
-ghost use Rattle.bt_stack.specs.inner.Kept.{item_in, bytes_in, Fits, Grows};
+ghost use Rattle.bt_stack.specs.inner.Kept.{item_in, bytes_in, is_text, Fits, Grows};
 
 use crate::reading::text_len;
 use crate::value::Value;
@@ -100,5 +100,27 @@ pub fn join<'a>(
             Ok(Some(text))
         }
         _ => Ok(None),
+    }
+}
+
+/// A kept text as one that lies in the pool. It is copied to the end of the pool if it lies elsewhere.
+#[inline(always)]
+#[tactic(auto, using(crate::proofs::JoinLemmas::put_last_part))]
+pub fn in_pool(pool: &mut Vec<u8>, value: Value) -> Result<Value<'static>, AllocError>
+    requires text { is_text value ≡ true }
+    requires fits { Fits (length pool.old.items) value }
+    ensures grows { Grows pool.old.items pool.new.items }
+    ensures text { IfOk result (λ made. is_text made ≡ true) }
+    ensures bytes { IfOk result (λ made. bytes_in pool.new.items made ≡ bytes_in pool.old.items value.entry) }
+    ensures fits { IfOk result (λ made. Fits (length pool.new.items) made) }
+{
+    match value {
+        Value::Given(text) => {
+            let start = pool.len();
+            pool.extend_from_slice(text)?;
+            Ok(Value::Made(start, text.len()))
+        }
+        Value::Made(start, len) => Ok(Value::Made(start, len)),
+        _ => Ok(Value::Missing(0)),
     }
 }

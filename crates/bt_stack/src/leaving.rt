@@ -24,9 +24,7 @@ fn trimmed(alloc: Global, held: Held) -> Held
 /// The part of a step's state that outlives the step.
 #[derive(Drop)]
 pub struct Left {
-    pub globals: VariablesLeft,
-    /// The entry's variables, if the step has an entry.
-    pub variables: Option<VariablesLeft>,
+    pub variables: VariablesLeft,
     pub held: Held,
     pub lines: Sequence<Bytes>,
     pub messages: Sequence<Message>,
@@ -47,15 +45,16 @@ impl<'a> State<'a> {
         messages(alloc, self.complaints.as_slice(), key)
     }
 
-    /// The variables of the step's entry as they are now, if it has one.
-    fn own_left(&mut self, alloc: Global) -> Result<Option<VariablesLeft>, AllocError>
-        ensures left { IfOk result (λ left. left ≡ own_variables (world_of self.old)) }
+    /// The variables as they are now; those of the entry, if there is one.
+    fn variables_left(&mut self, alloc: Global) -> Result<VariablesLeft, AllocError>
+        ensures left { IfOk result (λ left.
+            left ≡ ((world_of self.old).globals, own_variables (world_of self.old))) }
         ensures held { self.new.held ≡ self.old.held }
         ensures lines { self.new.lines ≡ self.old.lines }
     {
         match self.entry {
-            None => Ok(None),
-            Some(_) => Ok(Some(self.stack.own_left(alloc)?)),
+            None => self.stack.variables_left(alloc, false),
+            Some(_) => self.stack.variables_left(alloc, true),
         }
     }
 
@@ -70,17 +69,15 @@ impl<'a> State<'a> {
     }
 
     /// What the step leaves. Only the values of variables that the step changed and the words of its messages are copied.
-    /// The state is of no use after this.
+    /// The state is of no use after this, and its buffers are given back.
     #[inline(never)]
     pub fn leave(&mut self, alloc: Global) -> Result<Left, AllocError>
         ensures { IfOk result (λ left. left ≡ left_of (world_of self.old)) }
     {
         let messages = self.messages(alloc)?;
-        let globals = self.stack.globals_left(alloc)?;
-        let variables = self.own_left(alloc)?;
+        let variables = self.variables_left(alloc)?;
         let (held, lines) = self.take_output(alloc);
         Ok(Left {
-            globals,
             variables,
             held: trimmed(alloc, held),
             lines,

@@ -4,6 +4,7 @@
 mod arguments;
 mod assignment;
 mod beginning;
+mod buffers;
 mod comparison;
 mod forms;
 mod joining;
@@ -22,13 +23,14 @@ mod state;
 mod step_variables;
 mod table;
 mod texts;
-mod texts_left;
 mod value;
 mod variables_left;
 
 pub use arguments::{take_choice, take_loop, take_number};
 pub use assignment::assign_value;
+pub use beginning::Given;
 pub use bt_names::SoundPatterns;
+pub use buffers::{StepBuffers, VariableBuffers};
 pub use leaving::Left;
 pub use operands::{
     call_entry_number, call_entry_text, call_field, call_global_number, call_global_text,

@@ -14,6 +14,7 @@ ghost use Rattle.bt_stack.specs.Desk.{with_items};
 ghost use Rattle.bt_stack.specs.inner.Kept.{item_in, Fits};
 ghost use Rattle.bt_stack.specs.Tops.{twice, top_len, exchanged, with_top, cut, tops_equal};
 
+use crate::buffers::StepBuffers;
 use crate::reading::{code_in, cut, equal, field_text_in, name_in, number_in, text_in, value_at};
 use crate::shown::shown;
 use crate::step_variables::StepVariables;
@@ -30,7 +31,7 @@ mod variables;
 /// No pool is swept before it has this many bytes. Few steps make more.
 const SWEEP_BYTES: usize = 65_536;
 
-/// How many bytes the pool gets when the step makes its first text. Most steps need no more, and up to 1,032 bytes malloc
+/// How many bytes of texts there is room for at a step's beginning. Most steps need no more, and up to 1,032 bytes malloc
 /// keeps a free block at hand.
 const FIRST_BYTES: usize = 1_024;
 
@@ -48,7 +49,7 @@ pub struct Stack<'a> {
     pool: Vec<u8>,
     /// A buffer for bytes on their way into the pool.
     scratch: Vec<u8>,
-    /// The pool is swept once it has this many bytes. At first it is 0, so the first text finds the pool with room.
+    /// The pool is swept once it has this many bytes.
     sweep_at: usize,
 }
 
@@ -72,33 +73,38 @@ impl<'a> Model for Stack<'a> {
 
 impl<'a> Stack<'a> {
     /// An empty stack with the variables of the style and of an entry.
-    pub fn new(alloc: Global, globals: &'a Shared<Variables>, own: &'a Shared<Variables>) -> Self
+    pub fn new(
+        alloc: Global,
+        buffers: &mut StepBuffers,
+        globals: &'a Shared<Variables>,
+        own: &'a Shared<Variables>,
+    ) -> Self
         ensures { result ≡ record { items = []; globals = globals.now; own = own.now } }
     {
         Stack {
             values: Vec::new(alloc),
             globals: StepVariables {
                 given: globals,
-                numbers: Vec::new(alloc),
-                texts: Vec::new(alloc),
+                numbers: buffers.globals.take_numbers(alloc),
+                texts: buffers.globals.take_texts(alloc),
             },
             own: StepVariables {
                 given: own,
-                numbers: Vec::new(alloc),
-                texts: Vec::new(alloc),
+                numbers: buffers.own.take_numbers(alloc),
+                texts: buffers.own.take_texts(alloc),
             },
-            pool: Vec::new(alloc),
-            scratch: Vec::new(alloc),
-            sweep_at: 0,
+            pool: buffers.take_pool(alloc),
+            scratch: buffers.take_scratch(alloc),
+            sweep_at: SWEEP_BYTES,
         }
     }
 
-    /// Makes room for the values of most steps, and for the texts on their way into the pool, so that neither needs to grow
-    /// by small steps.
+    /// Makes room for the values and texts of most steps, so that they needn't grow by small steps.
     pub fn make_room(&mut self) -> Result<(), AllocError>
         ensures { self.new ≡ self.old }
     {
         self.values.reserve(FIRST_VALUES)?;
+        self.pool.reserve(FIRST_BYTES)?;
         self.scratch.reserve(FIRST_BYTES)
     }
 

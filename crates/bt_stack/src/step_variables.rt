@@ -21,7 +21,7 @@ const FIRST_VARIABLES: usize = 42;
 pub struct StepVariables<'a> {
     pub given: &'a Shared<Variables>,
     pub numbers: Vec<Option<i32>>,
-    pub texts: Vec<Value<'a>>,
+    pub texts: Vec<Value<'static>>,
 }
 
 /// The number that the step gave to a variable, or else the one that it was given.

@@ -1,19 +1,23 @@
 //! The variables that a step leaves.
 //!
-//! The step's texts lie in its pool or in its input, so they leave both in two stages. First each text that the step gave
-//! to a variable is copied. Then nothing borrows from the input any more, and a caller that needs it no longer can drop it.
-//! If the given variables have no other owner by then, the second stage writes the new values into them. Otherwise it
-//! writes them into a copy.
+//! Each text that the step gave to a variable lies in its pool, which is left with it. So nothing here borrows from the
+//! step's input, and a caller that needs the input no longer can drop it. If then the variables that the step was given have
+//! no other owner, the values are put into them, otherwise into a copy.
 
-ghost use Rattle.std.specs.Prelude.{◌≡◌, option_copied, IfOk, OnOk};
-ghost use Rattle.bt_stack.specs.inner.Kept.{values_over, put};
+ghost use Rattle.std.specs.Prelude.{◌≡◌, [], length, slice_get, option_map, IfOk, IfSome, OnOk};
+ghost use Rattle.bt_actions.specs.Arguments.{as_text};
+ghost use Rattle.bt_stack.specs.inner.Kept.{item_in, texts_over, values_over, put, own_of, Fits, AllFit};
+ghost use Rattle.bt_stack.specs.inner.Left.{changed_in};
 
+use crate::buffers::{StepBuffers, VariableBuffers};
+use crate::reading::text_in;
 use crate::step_variables::{StepVariables, own_number};
-use crate::texts_left::TextsLeft;
+use crate::value::Value;
 use bt_actions::Variables;
 use bt_text::{Bytes, Shared, Values};
 use std::alloc::{AllocError, Global};
 use std::marker::Model;
+use std::mem;
 
 /// Puts a number in its place, if the step gave one.
 fn put_number(
@@ -45,32 +49,35 @@ fn put_numbers(
     Ok(())
 }
 
-/// Puts a text in its place, if the step gave one.
+/// Puts a kept text of a pool in its place, if the value is one.
 fn put_text(
     alloc: Global,
-    text: Option<&[u8]>,
+    pool: &[u8],
+    value: Value,
     left: &mut Values<Shared<Bytes>>,
     n: usize,
 ) -> Result<(), AllocError>
-    ensures { OnOk result (left.new ≡ put (option_copied text.entry) n left.old) }
+    requires { Fits (length pool.now) value }
+    ensures { OnOk result (left.new ≡ put (as_text (item_in pool.now value.entry)) n left.old) }
 {
-    match text {
+    match text_in(pool, value) {
         None => Ok(()),
         Some(text) => left.write(alloc, n, text),
     }
 }
 
 /// Puts the texts that the step gave over others.
-#[tactic(auto, using(crate::proofs::LeftLemmas::values_next))]
 fn put_texts(
     alloc: Global,
-    texts: &TextsLeft,
+    pool: &[u8],
+    texts: &[Value],
     left: &mut Values<Shared<Bytes>>,
 ) -> Result<(), AllocError>
-    ensures { OnOk result (left.new ≡ values_over texts.now left.old) }
+    requires { AllFit (length pool.now) texts.now }
+    ensures { OnOk result (left.new ≡ texts_over pool.now texts.now left.old) }
 {
     'texts: for n in 0..texts.len() {
-        put_text(alloc, texts.get(n), left, n)?;
+        put_text(alloc, pool, texts[n], left, n)?;
     }
     Ok(())
 }
@@ -109,64 +116,144 @@ fn settled_in(
     }
 }
 
-/// The variables of a step at its end: those that it was given, and the values that it gave to some. Contracts see the
-/// variables as they are now.
+/// Variables that a step was given, and the values that it gave to some, as in `StepVariables`.
 #[derive(Drop)]
-pub struct VariablesLeft {
+pub struct ChangedVariables {
     given: Shared<Variables>,
     numbers: Vec<Option<i32>>,
-    texts: TextsLeft,
+    texts: Vec<Value<'static>>,
 }
 
-impl Model for VariablesLeft {
-    ghost use Rattle.bt_actions.specs.declared.entry.Variables.{Variables};
-    ghost use Rattle.bt_stack.specs.inner.Left.{variables_left};
-
-    ghost Value = { Variables };
-
-    ghost view = { λ left. variables_left left.numbers.items left.texts left.given };
-}
-
-impl VariablesLeft {
-    ghost use Rattle.std.specs.Prelude.{◌≡◌, length, IfOk};
-    ghost use Rattle.bt_stack.specs.inner.Kept.{AllFit, variables_in};
-
-    /// A step's variables with these numbers, which the step gave. Its texts are copied to a page.
-    pub fn of(
+impl ChangedVariables {
+    /// What the step leaves of variables, of which `given` are those that it was given. No value is left there.
+    pub(crate) fn of(
         alloc: Global,
-        page: Vec<u8>,
-        pool: &[u8],
-        numbers: Vec<Option<i32>>,
-        variables: &StepVariables,
-    ) -> Result<VariablesLeft, AllocError>
-        requires { AllFit (length pool.now) variables.now.texts.items }
-        ensures { IfOk result (λ left. left ≡ variables_in pool.now (record variables.now { numbers = numbers })) }
+        given: Shared<Variables>,
+        variables: &mut StepVariables,
+    ) -> ChangedVariables
+        ensures changed { result
+            ≡ record { given = given; numbers = variables.old.numbers; texts = variables.old.texts } }
+        ensures none { variables.new.texts.items ≡ [] }
     {
-        let texts = TextsLeft::of(alloc, page, pool, &variables.texts)?;
-        let given = variables.given.share()?;
-        Ok(VariablesLeft {
+        ChangedVariables {
             given,
-            numbers,
-            texts,
-        })
+            numbers: mem::replace(&mut variables.numbers, Vec::new(alloc)),
+            texts: mem::replace(&mut variables.texts, Vec::new(alloc)),
+        }
     }
 
-    /// The variables for many owners. Those that the step was given are changed in place if they have no other owner.
-    pub fn settled(self, alloc: Global) -> Result<Shared<Variables>, AllocError>
-        ensures { IfOk result (λ left. left ≡ self) }
+    /// The variables for many owners. Their texts lie in this pool. The buffers are given back.
+    fn settled(
+        self,
+        alloc: Global,
+        pool: &[u8],
+        buffers: &mut VariableBuffers,
+    ) -> Result<Shared<Variables>, AllocError>
+        requires { AllFit (length pool.now) self.texts.items }
+        ensures { IfOk result (λ left. left ≡ changed_in pool.now self) }
     {
-        let VariablesLeft {
+        let ChangedVariables {
             given,
             numbers,
             texts,
         } = self;
-        if numbers.is_empty() && texts.len() == 0 {
-            return Ok(given);
+        let settled = settled(alloc, pool, given, &numbers, &texts)?;
+        buffers.put_back(numbers, texts);
+        Ok(settled)
+    }
+}
+
+/// The variables for many owners, with these numbers and texts put over them.
+fn settled(
+    alloc: Global,
+    pool: &[u8],
+    given: Shared<Variables>,
+    numbers: &[Option<i32>],
+    texts: &[Value],
+) -> Result<Shared<Variables>, AllocError>
+    requires { AllFit (length pool.now) texts.now }
+    ensures { IfOk result (λ left. left ≡ record {
+      numbers = values_over numbers.now given.numbers;
+      texts = texts_over pool.now texts.now given.texts;
+    }) }
+{
+    if numbers.is_empty() && texts.is_empty() {
+        return Ok(given);
+    }
+    let mut given = given;
+    let mut left = taken(alloc, &mut given)?;
+    put_numbers(alloc, numbers, &mut left.numbers)?;
+    put_texts(alloc, pool, texts, &mut left.texts)?;
+    settled_in(alloc, given, left)
+}
+
+/// The variables of a step at its end: those of the style, and those of its entry, if it has one. Contracts see them as
+/// they are now.
+#[derive(Drop)]
+pub struct VariablesLeft {
+    pool: Vec<u8>,
+    /// A buffer that the step used beside the pool.
+    scratch: Vec<u8>,
+    globals: ChangedVariables,
+    own: Option<ChangedVariables>,
+}
+
+impl Model for VariablesLeft {
+    ghost use Rattle.std.specs.Prelude.{Option, length, option_map};
+    ghost use Rattle.std.specs.Option.{ForSome};
+    ghost use Rattle.bt_actions.specs.declared.entry.Variables.{Variables};
+    ghost use Rattle.bt_stack.specs.inner.Kept.{AllFit};
+    ghost use Rattle.bt_stack.specs.inner.Left.{changed_in};
+
+    ghost Value = { Variables × Option Variables };
+
+    ghost view = { λ left. (changed_in left.pool.items left.globals, option_map (changed_in left.pool.items) left.own) };
+
+    ghost invariant = { λ left. AllFit (length left.pool.items) left.globals.texts.items
+        × ForSome left.own (λ own. AllFit (length left.pool.items) own.texts.items) };
+}
+
+impl VariablesLeft {
+    /// Variables whose texts lie in this pool, and the buffer beside it.
+    pub(crate) fn of(
+        pool: Vec<u8>,
+        scratch: Vec<u8>,
+        globals: ChangedVariables,
+        own: Option<ChangedVariables>,
+    ) -> VariablesLeft
+        requires globals { AllFit (length pool.items) globals.texts.items }
+        requires own { IfSome own (λ own. AllFit (length pool.items) own.texts.items) }
+        ensures { result ≡ (changed_in pool.items globals, option_map (changed_in pool.items) own) }
+    {
+        VariablesLeft {
+            pool,
+            scratch,
+            globals,
+            own,
         }
-        let mut given = given;
-        let mut left = taken(alloc, &mut given)?;
-        put_numbers(alloc, &numbers, &mut left.numbers)?;
-        put_texts(alloc, &texts, &mut left.texts)?;
-        settled_in(alloc, given, left)
+    }
+
+    /// The variables for many owners. Those that the step was given are changed in place if they have no other owner. The
+    /// step's buffers are given back.
+    pub fn settled(
+        self,
+        alloc: Global,
+        buffers: &mut StepBuffers,
+    ) -> Result<(Shared<Variables>, Option<Shared<Variables>>), AllocError>
+        ensures { IfOk result (λ settled. settled ≡ self) }
+    {
+        let VariablesLeft {
+            pool,
+            scratch,
+            globals,
+            own,
+        } = self;
+        let globals = globals.settled(alloc, &pool, &mut buffers.globals)?;
+        let own = match own {
+            None => None,
+            Some(own) => Some(own.settled(alloc, &pool, &mut buffers.own)?),
+        };
+        buffers.put_back(pool, scratch);
+        Ok((globals, own))
     }
 }

@@ -6,7 +6,7 @@ ghost use Rattle.bt_stack.specs.Tops.{joined_tops};
 
 use crate::joining::join;
 use crate::moving::{copy_made, made_size, move_made};
-use crate::stack::{FIRST_BYTES, SWEEP_BYTES, Stack};
+use crate::stack::{SWEEP_BYTES, Stack};
 use crate::value::Value;
 use bt_text::TEXT_BYTES;
 use std::alloc::{AllocError, Global};
@@ -48,8 +48,7 @@ impl<'a> Stack<'a> {
     }
 
     /// An empty buffer to write a text into, while the arguments are read where they lie. `answer_text` takes it back,
-    /// so the same block serves all texts of a step. At the step's end, the texts that are
-    /// left keep it.
+    /// so the same block serves all texts of a step.
     pub fn take_page(&mut self, alloc: Global) -> Vec<u8>
         ensures empty { result.items ≡ [] }
         ensures same { self.new ≡ self.old }
@@ -117,24 +116,13 @@ impl<'a> Stack<'a> {
         Ok(())
     }
 
-    /// Gives an empty pool room for its first texts.
-    fn begin_pool(&mut self) -> Result<(), AllocError>
-        ensures { self.new ≡ self.old }
-    {
-        self.pool.reserve(FIRST_BYTES)
-    }
-
     /// Compacts the pool, and puts off the next sweep until the pool has twice the bytes that it has then. So all sweeps
-    /// together copy fewer bytes than the step wrote. An empty pool gets room instead.
+    /// together copy fewer bytes than the step wrote.
     #[cold]
-    fn sweep(&mut self) -> Result<(), AllocError>
+    pub(crate) fn sweep(&mut self) -> Result<(), AllocError>
         ensures { self.new ≡ self.old }
     {
-        if self.pool.is_empty() {
-            self.begin_pool()?;
-        } else {
-            self.compact()?;
-        }
+        self.compact()?;
         self.sweep_at = self.pool.len().saturating_mul(2).max(SWEEP_BYTES);
         Ok(())
     }

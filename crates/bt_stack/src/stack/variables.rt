@@ -1,15 +1,37 @@
 //! The variables of the style and of the entry, and how they get values from the stack.
 
-ghost use Rattle.std.specs.Prelude.{◌≡◌, ◌<◌, [], pos, length, slice_get, slice_index_or, option_and_then, IfOk, OnErr};
+ghost use Rattle.std.specs.Prelude.{◌≡◌, ◌<◌, [], pos, length, slice_get, slice_index_or, option_and_then, option_map, Some, None, if◌then◌else◌, IfOk, OnErr};
 ghost use Rattle.bt_actions.specs.Assignment.{with_number, with_text};
 ghost use Rattle.bt_stack.specs.Desk.{short, with_answer, with_globals, with_own};
 
+use crate::joining::in_pool;
 use crate::reading::text_value_at;
 use crate::stack::Stack;
-use crate::step_variables::{number_of, set_number, set_text, text_of};
-use crate::variables_left::VariablesLeft;
+use crate::step_variables::{StepVariables, number_of, set_number, set_text, text_of};
+use crate::variables_left::{ChangedVariables, VariablesLeft};
+use bt_actions::Variables;
+use bt_text::Shared;
 use std::alloc::{AllocError, Global};
 use std::mem;
+
+/// What the step leaves of its entry's variables, if it was given some. No value is left there.
+fn own_left(
+    alloc: Global,
+    given: Option<Shared<Variables>>,
+    own: &mut StepVariables,
+) -> Option<ChangedVariables>
+    ensures left { result ≡ option_map
+        (λ given. record { given = given; numbers = own.old.numbers; texts = own.old.texts }) given }
+    ensures none { own.new.texts.items ≡ [] }
+{
+    match given {
+        None => {
+            own.texts.clear();
+            None
+        }
+        Some(given) => Some(ChangedVariables::of(alloc, given, own)),
+    }
+}
 
 impl<'a> Stack<'a> {
     /// The value of a number variable of the style, or 0 if there is no such variable.
@@ -93,8 +115,20 @@ impl<'a> Stack<'a> {
         }
     }
 
-    /// Gives a text variable of the style the value `depth` places below the top, if that is a text. Nothing is copied.
+    /// Gives a text variable of the style the value `depth` places below the top, if that is a text. It is copied
+    /// into the pool unless it lies there.
     pub fn set_global_text(&mut self, n: usize, depth: usize) -> Result<bool, AllocError>
+        ensures ok { IfOk result (λ done. (done, self.new) ≡ with_globals (option_and_then
+            (λ v. with_text n v self.old.globals) (slice_get self.old.items depth)) self.old) }
+        ensures err { OnErr result (self.new ≡ self.old) }
+    {
+        if self.pool.len() >= self.sweep_at {
+            self.sweep()?;
+        }
+        self.put_global_text(n, depth)
+    }
+
+    fn put_global_text(&mut self, n: usize, depth: usize) -> Result<bool, AllocError>
         ensures ok { IfOk result (λ done. (done, self.new) ≡ with_globals (option_and_then
             (λ v. with_text n v self.old.globals) (slice_get self.old.items depth)) self.old) }
         ensures err { OnErr result (self.new ≡ self.old) }
@@ -102,6 +136,7 @@ impl<'a> Stack<'a> {
         match text_value_at(&self.values, depth) {
             None => Ok(false),
             Some(text) => {
+                let text = in_pool(&mut self.pool, text)?;
                 let count = self.globals.given.texts.len();
                 set_text(&mut self.globals.texts, count, n, text)?;
                 Ok(true)
@@ -115,9 +150,21 @@ impl<'a> Stack<'a> {
             (λ v. with_text n v self.old.own) (slice_get self.old.items depth)) self.old) }
         ensures err { OnErr result (self.new ≡ self.old) }
     {
+        if self.pool.len() >= self.sweep_at {
+            self.sweep()?;
+        }
+        self.put_own_text(n, depth)
+    }
+
+    fn put_own_text(&mut self, n: usize, depth: usize) -> Result<bool, AllocError>
+        ensures ok { IfOk result (λ done. (done, self.new) ≡ with_own (option_and_then
+            (λ v. with_text n v self.old.own) (slice_get self.old.items depth)) self.old) }
+        ensures err { OnErr result (self.new ≡ self.old) }
+    {
         match text_value_at(&self.values, depth) {
             None => Ok(false),
             Some(text) => {
+                let text = in_pool(&mut self.pool, text)?;
                 let count = self.own.given.texts.len();
                 set_text(&mut self.own.texts, count, n, text)?;
                 Ok(true)
@@ -125,35 +172,26 @@ impl<'a> Stack<'a> {
         }
     }
 
-    /// A buffer for so many texts that outlive the step: the step's own, if it still has it.
-    fn page_for(&mut self, alloc: Global, count: usize) -> Vec<u8>
-        ensures { self.new ≡ self.old }
+    /// The variables as they are now; those of the entry only if there is one. The stack keeps nothing of them.
+    pub fn variables_left(
+        &mut self,
+        alloc: Global,
+        has_entry: bool,
+    ) -> Result<VariablesLeft, AllocError>
+        ensures { IfOk result (λ left.
+            left ≡ (self.old.globals, if has_entry then Some self.old.own else None)) }
     {
-        if count == 0 {
-            Vec::new(alloc)
+        let globals = self.globals.given.share()?;
+        let own = if has_entry {
+            Some(self.own.given.share()?)
         } else {
-            self.take_page(alloc)
-        }
-    }
-
-    /// The variables of the style as they are now. The stack keeps none of the numbers that the step gave to them.
-    pub fn globals_left(&mut self, alloc: Global) -> Result<VariablesLeft, AllocError>
-        ensures left { IfOk result (λ left. left ≡ self.old.globals) }
-        ensures own { self.new.own ≡ self.old.own }
-    {
-        let count = self.globals.texts.len();
-        let page = self.page_for(alloc, count);
-        let numbers = mem::replace(&mut self.globals.numbers, Vec::new(alloc));
-        VariablesLeft::of(alloc, page, &self.pool, numbers, &self.globals)
-    }
-
-    /// The same of the entry.
-    pub fn own_left(&mut self, alloc: Global) -> Result<VariablesLeft, AllocError>
-        ensures { IfOk result (λ left. left ≡ self.old.own) }
-    {
-        let count = self.own.texts.len();
-        let page = self.page_for(alloc, count);
-        let numbers = mem::replace(&mut self.own.numbers, Vec::new(alloc));
-        VariablesLeft::of(alloc, page, &self.pool, numbers, &self.own)
+            None
+        };
+        self.values.clear();
+        let globals = ChangedVariables::of(alloc, globals, &mut self.globals);
+        let own = own_left(alloc, own, &mut self.own);
+        let pool = mem::replace(&mut self.pool, Vec::new(alloc));
+        let scratch = mem::replace(&mut self.scratch, Vec::new(alloc));
+        Ok(VariablesLeft::of(pool, scratch, globals, own))
     }
 }

@@ -8,7 +8,7 @@
 use crate::hints::entries::folded;
 use bt_job::File;
 use indexmap::IndexMap;
-use memchr::{memchr_iter, memchr2, memchr3};
+use memchr::{memchr_iter, memchr3};
 use std::alloc::{AllocError, Global};
 
 /// The names of parents as entries spell them, by their lower-case forms.
@@ -129,9 +129,12 @@ fn has_wrong_field<'a>(
     Ok(has_wrong_name(text, names_from, text.len()))
 }
 
-/// The key of an item whose `@` is before this text.
+/// The key of an item whose `@` is before this text, unless another `@` comes before its opening sign.
 fn key(item: &[u8]) -> Option<&[u8]> {
-    let open = memchr2(b'{', b'(', item)?;
+    let open = memchr3(b'{', b'(', b'@', item)?;
+    if item.get(open) == Some(&b'@') {
+        return None;
+    }
     let rest = after(item, open);
     rest.split(|byte| *byte == b'}' || ends_word(*byte)).next()
 }

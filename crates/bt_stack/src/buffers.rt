@@ -1,0 +1,109 @@
+//! Buffers that the steps of a run use one after another.
+//!
+//! A step needs several buffers for a short time. If each allocated its own, that would take a third of what a short step
+//! takes. They are empty whenever a step gets them, so no step sees anything of another.
+
+ghost use Rattle.std.specs.Prelude.{◌≡◌, []};
+
+use crate::value::Value;
+use std::alloc::Global;
+use std::marker::Model;
+use std::mem;
+
+/// The buffer without its elements, in whose place there is one without memory.
+fn emptied<T: Drop>(alloc: Global, buffer: &mut Vec<T>) -> Vec<T>
+    ensures { result.items ≡ [] }
+{
+    let mut emptied = mem::replace(buffer, Vec::new(alloc));
+    emptied.clear();
+    emptied
+}
+
+/// Buffers for the variables that a step changes: those of the style or those of its entry. Contracts see nothing of them.
+#[derive(Drop)]
+pub struct VariableBuffers {
+    numbers: Vec<Option<i32>>,
+    texts: Vec<Value<'static>>,
+}
+
+impl Model for VariableBuffers {
+    ghost Value = { Unit {0} };
+
+    ghost view = { λ buffers. tt };
+}
+
+impl VariableBuffers {
+    fn new(alloc: Global) -> Self {
+        VariableBuffers {
+            numbers: Vec::new(alloc),
+            texts: Vec::new(alloc),
+        }
+    }
+
+    /// A buffer for numbers. It is empty.
+    pub(crate) fn take_numbers(&mut self, alloc: Global) -> Vec<Option<i32>>
+        ensures { result.items ≡ [] }
+    {
+        emptied(alloc, &mut self.numbers)
+    }
+
+    /// A buffer for texts. It is empty.
+    pub(crate) fn take_texts(&mut self, alloc: Global) -> Vec<Value<'static>>
+        ensures { result.items ≡ [] }
+    {
+        emptied(alloc, &mut self.texts)
+    }
+
+    /// Takes buffers back.
+    pub(crate) fn put_back(&mut self, numbers: Vec<Option<i32>>, texts: Vec<Value<'static>>) {
+        self.numbers = numbers;
+        self.texts = texts;
+    }
+}
+
+/// Buffers for a step. Contracts see nothing of them.
+#[derive(Drop)]
+pub struct StepBuffers {
+    pool: Vec<u8>,
+    scratch: Vec<u8>,
+    /// For the variables of the style.
+    pub globals: VariableBuffers,
+    /// For those of the entry.
+    pub own: VariableBuffers,
+}
+
+impl Model for StepBuffers {
+    ghost Value = { Unit {0} };
+
+    ghost view = { λ buffers. tt };
+}
+
+impl StepBuffers {
+    /// Buffers that take no memory yet.
+    pub fn new(alloc: Global) -> Self {
+        StepBuffers {
+            pool: Vec::new(alloc),
+            scratch: Vec::new(alloc),
+            globals: VariableBuffers::new(alloc),
+            own: VariableBuffers::new(alloc),
+        }
+    }
+
+    /// A buffer for the texts that the step makes. It is empty.
+    pub(crate) fn take_pool(&mut self, alloc: Global) -> Vec<u8>
+        ensures { result.items ≡ [] }
+    {
+        emptied(alloc, &mut self.pool)
+    }
+
+    /// A buffer for bytes on their way into the pool.
+    pub(crate) fn take_scratch(&mut self, alloc: Global) -> Vec<u8> {
+        mem::replace(&mut self.scratch, Vec::new(alloc))
+    }
+
+    /// Takes the pool and the buffer beside it back.
+    pub(crate) fn put_back(&mut self, pool: Vec<u8>, scratch: Vec<u8>) {
+        self.pool = pool;
+        self.scratch = scratch;
+    }
+}
