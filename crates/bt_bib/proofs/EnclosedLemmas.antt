@@ -1,21 +1,25 @@
 -- What braces and quotes enclose, byte by byte, with a count of the open braces.
 use Rattle.std.specs.Prelude.{◌==◌, ◌&&◌, ◌||◌, not, count_by}
-use Rattle.std.proofs.Common.{◌≡◌, ℕ, zero, suc, ◌+◌, ◌-◌, ◌<◌, ◌≤◌, Bool, true, false, cond, List, [], ◌∷◌, ◌++◌, length, drop, take, get_or, Result, Ok, Err, refl, ap, sym, ◌∙◌, arith, append_assoc, inl, inr}
-use Rattle.std.proofs.lemmas.List.{drop_more, drop_all, drop_at, take_at}
-use Rattle.std.proofs.lemmas.List.Sums.{sum_by-append, sum_by-cons}
-use Rattle.std.proofs.lemmas.Bool.{cases_eq, eq-eqb, ne_eqb, eqb-true, false≢true}
-use Rattle.bt_text.specs.ByteTests.{left_brace, right_brace}
+use Rattle.std.specs.List.{list_all, take_while}
+use Rattle.std.specs.Option.{unwrap_or}
+use Rattle.memchr.specs.Find.{IsFirstByte, is_byte3}
+use Rattle.std.proofs.Common.{◌≡◌, ℕ, zero, suc, ◌+◌, ◌-◌, ◌<◌, ◌≤◌, Bool, true, false, cond, List, [], ◌∷◌, ◌++◌, length, drop, take, get_or, Option, Result, Ok, Err, refl, ap, sym, subst, ◌∙◌, arith, append_assoc, length-drop, inl, inr}
+use Rattle.std.proofs.lemmas.List.{drop_more, drop_all, drop_at, drop-drop, take_at, take-append-drop, length-take-le}
+use Rattle.std.proofs.lemmas.List.Sums.{sum_by-append, sum_by-cons, take_while-cons}
+use Rattle.std.proofs.lemmas.Bool.{and_from, and_parts, cases_eq, eq-eqb, ne_eqb, eqb-true, false≢true}
+use Rattle.bt_text.specs.ByteTests.{is_line_feed, left_brace, right_brace}
 use Rattle.bt_bib.specs.declared.spot.Spot.{Spot}
 use Rattle.bt_bib.specs.declared.fault.ItemFault.TheVariants.{EndOfFile, UnbalancedBraces}
 use Rattle.bt_bib.specs.declared.enclosure.Turn.{Turn}
 use Rattle.bt_bib.specs.declared.enclosure.Turn.TheVariants as turns
 use Rattle.bt_bib.specs.Spot.{Here, at, here, spot_after_byte, spot_after, after_bytes}
-use Rattle.bt_bib.specs.Scan.{first, after_run}
+use Rattle.bt_bib.specs.Scan.{first}
 use Rattle.bt_bib.specs.Stop.{Stop, ◌>>=◌}
 use Rattle.bt_bib.specs.Enclosure.{enclosed, enclosed_text, ends_enclosed}
 use Rattle.bt_bib.specs.inner.Cases.{enclosed_by}
-use Rattle.bt_bib.specs.inner.Enclosure.{enclosed_end, turn, is_plain}
-use Rattle.bt_bib.proofs.RunLemmas.{passed-nil, passed-cons, past_run, past_is_run}
+use Rattle.bt_bib.specs.inner.Enclosure.{enclosed_end, turn, is_plain, IsPlainUpto}
+use Rattle.bt_bib.proofs.RunLemmas.{passed-nil, passed-cons, same_spot, flat_count}
+use Rattle.bt_bib.proofs.SeekLemmas.{near_run, near_within}
 
 abbrev pub between : Here → Here → List ℕ
 between h e = take (e.spot.place - h.spot.place) h.rest
@@ -194,17 +198,68 @@ plain_turn false z false false d h = refl
 plain_goes : (close d : ℕ) (s : Spot) (b : ℕ) (rest : List ℕ) → is_plain close b ≡ true → enclosed_run close d s (b ∷ rest) ≡ enclosed_run close d (spot_after_byte b s) rest
 plain_goes close d s b rest h = enclosed_cons close d s b rest (turns.Goes d) (sym (plain_turn (b == close) (d == 0) (b == left_brace) (b == right_brace) d h))
 
-abbrev run_at : ℕ → ℕ → Here → Result Here Stop
-run_at close d h = enclosed_run close d h.spot h.rest
+plain_front : (close d : ℕ) (s : Spot) (front rest : List ℕ) → list_all (is_plain close) front ≡ true → enclosed_run close d (spot_after front s) rest ≡ enclosed_run close d s (front ++ rest)
+plain_front close d s [] rest all = ap (λ u. enclosed_run close d u rest) (passed-nil s)
+plain_front close d s (b ∷ front) rest all =
+    let both = and_parts (is_plain close b) (list_all (is_plain close) front) all in
+    ap (λ u. enclosed_run close d u rest) (passed-cons b front s) ∙ plain_front close d (spot_after_byte b s) front rest both.1 ∙ sym (plain_goes close d s b (front ++ rest) both.0)
 
-plain_by : (v : Bool) (close d : ℕ) (s : Spot) (b : ℕ) (rest : List ℕ) (far : Here) → is_plain close b ≡ v → run_at close d far ≡ enclosed_run close d (spot_after_byte b s) rest → run_at close d (cond v far (at s (b ∷ rest))) ≡ enclosed_run close d s (b ∷ rest)
-plain_by true close d s b rest far h e = e ∙ sym (plain_goes close d s b rest h)
-plain_by false close d s b rest far h e = refl
+pub enclosed_jumps : (close d : ℕ) (text : List ℕ) (s end : Spot) → s.place ≤ end.place → IsPlainUpto close text s end → enclosed_run close d end (drop end.place text) ≡ enclosed_run close d s (drop s.place text)
+enclosed_jumps close d text s end le upto =
+    let n = end.place - s.place in
+    let rest = drop s.place text in
+    let far : end.place ≡ s.place + n = omega arith in
+    ap (λ u. enclosed_run close d u (drop end.place text)) upto.moved
+    ∙ ap (enclosed_run close d (spot_after (take n rest) s)) (ap (λ k. drop k text) far ∙ sym (drop-drop n s.place text))
+    ∙ plain_front close d s (take n rest) (drop n rest) upto.plain
+    ∙ ap (enclosed_run close d s) (take-append-drop n rest)
 
-plain_run : (close d : ℕ) (s : Spot) (rest : List ℕ) → run_at close d (past_run (is_plain close) s rest) ≡ enclosed_run close d s rest
-unfolding past_run
-plain_run close d s [] = refl
-plain_run close d s (b ∷ rest) = plain_by (is_plain close b) close d s b rest (past_run (is_plain close) (spot_after_byte b s) rest) refl (plain_run close d (spot_after_byte b s) rest)
+-- the end of such a jump
+upto_by : (close : ℕ) (text : List ℕ) (s end : Spot) (n : ℕ) → end.place ≡ s.place + n → end ≡ spot_after (take n (drop s.place text)) s → list_all (is_plain close) (take n (drop s.place text)) ≡ true → IsPlainUpto close text s end
+upto_by close text s end n far moved plain =
+    let same : n ≡ end.place - s.place = omega (arith, far) in
+    record {
+      moved = moved ∙ ap (λ k. spot_after (take k (drop s.place text)) s) same;
+      plain = subst (λ k. list_all (is_plain close) (take k (drop s.place text)) ≡ true) same plain;
+    }
 
-pub enclosed_jumps : (close d : ℕ) (text : List ℕ) (s end : Spot) → here text end ≡ after_run (is_plain close) (here text s) → enclosed_run close d end (drop end.place text) ≡ enclosed_run close d s (drop s.place text)
-enclosed_jumps close d text s end is = ap (run_at close d) (is ∙ past_is_run (is_plain close) s (drop s.place text)) ∙ plain_run close d s (drop s.place text)
+passes_by : (v : Bool) (p : ℕ → Bool) (b : ℕ) (front : List ℕ) → (v ≡ true → p b ≡ true) → list_all p front ≡ true → list_all p (cond v (b ∷ front) []) ≡ true
+passes_by true p b front k e = and_from (p b) (list_all p front) (k refl) e
+passes_by false p b front k e = refl
+
+passes_run : (p q : ℕ → Bool) → ((b : ℕ) → q b ≡ true → p b ≡ true) → (bs : List ℕ) → list_all p (take_while q bs) ≡ true
+passes_run p q k [] = refl
+passes_run p q k (b ∷ bs) = ap (list_all p) (take_while-cons q b bs) ∙ passes_by (q b) p b (take_while q bs) (k b) (passes_run p q k bs)
+
+-- found by a search in the next `most` bytes
+pub upto_found : (close : ℕ) (text near : List ℕ) (s end : Spot) (most : ℕ) (r : Option ℕ) (n : ℕ) → near ≡ take most (drop s.place text) → most ≤ length text - s.place → IsFirstByte (is_byte3 close left_brace right_brace) near r → n ≡ unwrap_or r (length near) → end ≡ spot_after (take n (drop s.place text)) s → IsPlainUpto close text s end
+upto_found close text near s end most r n same le found is ends =
+    let rest = drop s.place text in
+    let hit = is_byte3 close left_brace right_brace in
+    let within : most ≤ length rest = omega (arith, le, length-drop s.place text) in
+    let run = near_run hit rest near most r n same within found is in
+    let len = length-take-le n rest (omega (arith, within, near_within hit rest near most r n same within found is)) in
+    upto_by close text s end n (ap (λ (u : Spot). u.place) ends ∙ ap (λ k. s.place + k) len) ends (ap (list_all (is_plain close)) (sym run) ∙ passes_run (is_plain close) (λ b. not (hit b)) (λ b h. h) near)
+
+-- the same by a search that stops at line feeds too, for what braces enclose
+feed_plain : (f l r : Bool) → not (f || l || r) ≡ true → not (r || l || r) ≡ true
+feed_plain true l r h = absurd (false≢true h)
+feed_plain false true r h = absurd (false≢true h)
+feed_plain false false true h = absurd (false≢true h)
+feed_plain false false false h = refl
+
+feed_flat : (f l r : Bool) → not (f || l || r) ≡ true → f ≡ false
+feed_flat true l r h = absurd (false≢true h)
+feed_flat false l r h = refl
+
+pub upto_feed : (close : ℕ) (text near : List ℕ) (s end : Spot) (most : ℕ) (r : Option ℕ) (n : ℕ) → close ≡ right_brace → near ≡ take most (drop s.place text) → most ≤ length text - s.place → IsFirstByte (is_byte3 10 left_brace right_brace) near r → n ≡ unwrap_or r (length near) → end.place ≡ s.place + n → end.line ≡ s.line → IsPlainUpto close text s end
+upto_feed close text near s end most r n brace same le found is far line =
+    let rest = drop s.place text in
+    let hit = is_byte3 10 left_brace right_brace in
+    let within : most ≤ length rest = omega (arith, le, length-drop s.place text) in
+    let run = near_run hit rest near most r n same within found is in
+    let flat = ap (count_by is_line_feed) (sym run) ∙ flat_count (λ b. not (hit b)) (λ b h. feed_flat (b == 10) (b == left_brace) (b == right_brace) h) near in
+    let len = length-take-le n rest (omega (arith, within, near_within hit rest near most r n same within found is)) in
+    let plain = ap (list_all (is_plain right_brace)) (sym run) ∙ passes_run (is_plain right_brace) (λ b. not (hit b)) (λ b h. feed_plain (b == 10) (b == left_brace) (b == right_brace) h) near in
+    let ends = same_spot end.place end.line (s.place + length (take n rest)) (s.line + count_by is_line_feed (take n rest)) (omega (arith, far, len)) (omega (arith, line, flat)) in
+    subst (λ c. IsPlainUpto c text s end) (sym brace) (upto_by right_brace text s end n far ends plain)

@@ -1,16 +1,19 @@
 -- The next part and the next field each leave fewer bytes.
 use Rattle.std.specs.Prelude.{◌==◌}
-use Rattle.std.proofs.Common.{ℕ, List, [], ◌∷◌, Some, Ok, arith}
+use Rattle.std.proofs.Common.{◌≡◌, ℕ, false, cond, List, [], ◌∷◌, Option, Some, None, Ok, refl, ap, arith}
 use Rattle.bt_bib.specs.declared.spot.Spot.{Spot}
 use Rattle.bt_bib.specs.declared.item.Closing.{Closing}
 use Rattle.bt_bib.specs.Spot.{Here, at, spot_after_byte}
 use Rattle.bt_bib.specs.Stop.{◌>>=◌}
 use Rattle.bt_bib.specs.Scan.{first, after_white, closing_sign}
+use Rattle.bt_bib.specs.declared.item.Part.{Part}
 use Rattle.bt_bib.specs.Values.{part, next_part}
+use Rattle.bt_bib.specs.Many.{all, collected}
 use Rattle.bt_bib.specs.Fields.{next_field}
-use Rattle.bt_bib.specs.inner.Cases.{field_or_close, next_field_from, joined_from}
+use Rattle.bt_bib.specs.inner.Cases.{field_or_close, is_hash, is_joined, next_field_from, joined_from}
 use Rattle.bt_bib.proofs.ReachLemmas.{reaches_self, advances_ok, advances_bind, advances_white, part_advances, field_or_close_advances}
-use Rattle.bt_bib.proofs.ManyLemmas.{IsLess, less_from, less_if}
+use Rattle.bt_bib.proofs.ManyLemmas.{IsLess, less_from, less_if, gathers_none}
+use Rattle.bt_bib.proofs.LoopLemmas.{read_out}
 
 -- the next part
 joined_less_run : (close : Closing) (s : Spot) (r : List ℕ) → IsLess (at s r) (joined_from close (at s r) (first r))
@@ -33,3 +36,15 @@ next_field_less_run close s (b ∷ bs) =
 pub next_field_less : (close : Closing) (h : Here) → IsLess h (next_field close h)
 unfolding next_field
 next_field_less close h = next_field_less_run close h.spot h.rest
+
+-- a value of a single part
+no_hash : (close : Closing) (h : Here) (o : Option ℕ) → is_hash o ≡ false → joined_from close h o ≡ Ok (None, h)
+no_hash close h None e = refl
+no_hash close h (Some b) e = rw e refl
+
+next_none : (close : Closing) (h : Here) → is_joined h ≡ false → next_part close h ≡ Ok (None, h)
+unfolding next_part
+next_none close h e = no_hash close h (first h.rest) e
+
+pub alone : (close : Closing) (front : List Part) (h : Here) → is_joined h ≡ false → collected front (all (next_part close) h) ≡ Ok (front, h)
+alone close front h e = ap read_out (gathers_none (next_part close) (joined_less close) front h h (next_none close h e))

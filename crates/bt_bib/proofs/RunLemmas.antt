@@ -1,12 +1,12 @@
 -- Runs of bytes, byte by byte.
-use Rattle.std.specs.Prelude.{count_by}
+use Rattle.std.specs.Prelude.{count_by, not, nat_le, ◌&&◌}
 use Rattle.std.specs.List.{take_while}
 use Rattle.std.proofs.Common.{◌≡◌, ℕ, ◌+◌, ◌-◌, ◌<◌, ◌≤◌, Bool, true, false, cond, List, [], ◌∷◌, length, drop, take, get_or, refl, ap, sym, subst, ◌∙◌, arith}
-use Rattle.std.proofs.lemmas.List.{drop_more, drop_all}
+use Rattle.std.proofs.lemmas.List.{drop_more, drop_all, drop-drop}
 use Rattle.std.proofs.lemmas.List.Sums.{sum_by-cons, take_while-cons}
 use Rattle.bt_bib.specs.declared.spot.Spot.{Spot}
 use Rattle.std.proofs.lemmas.Bool.Decides.{nat_tests}
-use Rattle.bt_text.specs.ByteTests.{is_line_feed, is_small}
+use Rattle.bt_text.specs.ByteTests.{is_digit, is_line_feed, is_small, is_white}
 use Rattle.bt_text.specs.NameBytes.{is_name_byte}
 use Rattle.bt_bib.specs.Spot.{Here, at, here, spot_after_byte, spot_after, after_bytes}
 use Rattle.bt_bib.specs.Scan.{after_run, run}
@@ -92,3 +92,29 @@ run_taken test text from end is = ap (λ (h : Here). take (h.spot.place - from.p
 -- A small letter is a byte of a name.
 pub small_named : (b : ℕ) → is_small b ≡ true → is_name_byte b ≡ true
 small_named b h = grind (arith, nat_tests)
+
+pub small_begins : (b : ℕ) → is_small b ≡ true → (is_name_byte b && not (is_digit b)) ≡ true
+small_begins b h = grind (arith, nat_tests)
+
+-- No byte beyond the space is white space.
+pub white_low : (b : ℕ) → nat_le b 32 ≡ false → is_white b ≡ false
+white_low b h = grind (arith, nat_tests)
+
+-- a run without a line feed stays on its line
+flat_by : (v : Bool) (b : ℕ) (front : List ℕ) → (v ≡ true → is_line_feed b ≡ false) → count_by is_line_feed front ≡ 0 → count_by is_line_feed (cond v (b ∷ front) []) ≡ 0
+flat_by true b front flat e = omega (arith, sum_by-cons one b front, ap (λ (v : Bool). cond {A = ℕ} v 1 0) (flat refl), e)
+flat_by false b front flat e = refl
+
+pub flat_count : (test : ℕ → Bool) → ((b : ℕ) → test b ≡ true → is_line_feed b ≡ false) → (bs : List ℕ) → count_by is_line_feed (take_while test bs) ≡ 0
+flat_count test flat [] = refl
+flat_count test flat (b ∷ bs) = ap (count_by is_line_feed) (take_while-cons test b bs) ∙ flat_by (test b) b (take_while test bs) (flat b) (flat_count test flat bs)
+
+pub flat_run : (test : ℕ → Bool) → ((b : ℕ) → test b ≡ true → is_line_feed b ≡ false) → (text : List ℕ) (s : Spot) (n : ℕ) → n ≡ length (take_while test (drop s.place text)) → (let end : Spot = record { place = s.place + n; line = s.line } in here text end) ≡ after_run test (here text s)
+flat_run test flat text s n is =
+    let rest = drop s.place text in
+    let front = take_while test rest in
+    ap (here text) (same_spot (s.place + n) s.line (s.place + length front) (s.line + count_by is_line_feed front) (ap (λ k. s.place + k) is) (omega (arith, flat_count test flat rest)))
+    ∙ ap (at (spot_after front s)) (sym (drop-drop (length front) s.place text))
+
+pub name_flat : (b : ℕ) → is_name_byte b ≡ true → is_line_feed b ≡ false
+name_flat b h = grind (arith, nat_tests)

@@ -3,7 +3,7 @@ use Rattle.std.specs.Prelude.{count_by, not}
 use Rattle.std.specs.List.{take_while}
 use Rattle.std.specs.Option.{unwrap_or}
 use Rattle.std.proofs.lemmas.List.Sums.{sum_by-cons, take_while-cons}
-use Rattle.std.proofs.lemmas.List.{drop-drop, drop_all, drop_more}
+use Rattle.std.proofs.lemmas.List.{drop-drop, drop_all, drop_more, length-take-le, take-take}
 use Rattle.memchr.specs.Find.{IsFirstByte}
 use Rattle.std.proofs.Common.{Option, Some, None, ◌≡◌, ℕ, zero, suc, ◌+◌, ◌<◌, ◌≤◌, Bool, true, false, cond, List, [], ◌∷◌, length, take, drop, get_or, refl, sym, ap, subst, ◌∙◌, arith, ◌⊎◌, inl, inr}
 use Rattle.std.proofs.lemmas.Bool.{false_from_ne_true}
@@ -31,6 +31,17 @@ run_to hit (suc k) (b ∷ bs) n le ends =
 run_found : (hit : ℕ → Bool) (bs : List ℕ) (r : Option ℕ) (n : ℕ) → IsFirstByte hit bs r → n ≡ unwrap_or r (length bs) → take_while (λ b. not (hit b)) bs ≡ take n bs
 run_found hit bs None n found is = run_to hit n bs (λ j lt. found j (omega arith) (omega arith)) (omega arith) (inl (sym is))
 run_found hit bs (Some k) n found is = run_to hit n bs (λ j lt. found.0.before j (omega arith) (omega arith)) (omega (arith, found.0.high)) (inr (ap (λ i. hit (get_or bs i 0)) is ∙ found.1))
+
+found_within : (hit : ℕ → Bool) (bs : List ℕ) (r : Option ℕ) (n : ℕ) → IsFirstByte hit bs r → n ≡ unwrap_or r (length bs) → n ≤ length bs
+found_within hit bs None n found is = omega (arith, is)
+found_within hit bs (Some k) n found is = omega (arith, is, found.0.high)
+
+-- what a search in the first bytes says of the whole
+pub near_within : (hit : ℕ → Bool) (bs near : List ℕ) (most : ℕ) (r : Option ℕ) (n : ℕ) → near ≡ take most bs → most ≤ length bs → IsFirstByte hit near r → n ≡ unwrap_or r (length near) → n ≤ most
+near_within hit bs near most r n same le found is = omega (arith, found_within hit near r n found is, ap (λ (x : List ℕ). length x) same, length-take-le most bs le)
+
+pub near_run : (hit : ℕ → Bool) (bs near : List ℕ) (most : ℕ) (r : Option ℕ) (n : ℕ) → near ≡ take most bs → most ≤ length bs → IsFirstByte hit near r → n ≡ unwrap_or r (length near) → take_while (λ b. not (hit b)) near ≡ take n bs
+near_run hit bs near most r n same le found is = run_found hit near r n found is ∙ ap (take n) same ∙ take-take n most bs (near_within hit bs near most r n same le found is)
 
 -- a jump over this many bytes of a text, found by a search in the slice `hay`
 pub jumps : (hit : ℕ → Bool) (text hay : List ℕ) (s end : Spot) (r : Option ℕ) (n : ℕ) → hay ≡ drop s.place text → IsFirstByte hit hay r → n ≡ unwrap_or r (length hay) → end ≡ spot_after (take n (drop s.place text)) s → here text end ≡ after_run (λ b. not (hit b)) (here text s)

@@ -7,9 +7,8 @@
 ghost use Rattle.std.specs.Prelude.{◌≡◌, ◌<◌, ◌+◌, ◌^◌};
 ghost use Rattle.bt_bib.specs.Spot.{here};
 ghost use Rattle.bt_bib.specs.inner.Spot.{IsAhead, IsIn};
-ghost use Rattle.bt_bib.specs.Scan.{after_run};
 ghost use Rattle.bt_bib.specs.Enclosure.{enclosed};
-ghost use Rattle.bt_bib.specs.inner.Enclosure.{enclosed_end, is_plain, turn, IsNear};
+ghost use Rattle.bt_bib.specs.inner.Enclosure.{enclosed_end, is_plain, turn, IsNear, IsPlainUpto};
 ghost use Rattle.bt_bib.specs.inner.Stop.{Finds, Gives};
 
 use crate::fault::ItemFault;
@@ -18,6 +17,10 @@ use crate::spot::Spot;
 use crate::stop::ReadStop;
 use bt_text::Excerpt;
 use memchr::memchr3;
+
+/// How many bytes are searched at once. From 192 bytes on, `memchr3` is made for hits that are far away, and finds near
+/// ones more slowly.
+const NEAR: usize = 160;
 
 /// What a byte does inside braces or quotes.
 #[derive(Clone, Copy, PartialEq, Eq)]
@@ -61,18 +64,28 @@ fn is_plain(close: u8, byte: u8) -> bool
 }
 
 impl Reader<'_> {
-    /// The next brace or closing sign, or the text's end.
+    /// The next byte that may matter, or a place before it.
     fn past_plain(&self, from: Spot, close: u8) -> Spot
         requires { IsIn self.now.text.now from }
-        ensures value { here self.now.text.now result ≡ after_run (is_plain close) (here self.now.text.now from) }
+        ensures value { IsPlainUpto close self.now.text.now from result }
         ensures inside { IsAhead self.now.text.now from result }
     {
         if from.place < self.text.len() && !is_plain(close, self.text[from.place]) {
             return from;
         }
         let rest = &self.text[from.place..];
-        let count = memchr3(close, b'{', b'}', rest).unwrap_or(rest.len());
-        self.ahead(from, count)
+        let near = &rest[..rest.len().min(NEAR)];
+        if close == b'}' {
+            // The search stops at line feeds too, so none has to be counted.
+            let count = memchr3(b'\n', b'{', b'}', near).unwrap_or(near.len());
+            Spot {
+                place: from.place + count,
+                line: from.line,
+            }
+        } else {
+            let count = memchr3(close, b'{', b'}', near).unwrap_or(near.len());
+            self.ahead(from, count)
+        }
     }
 
     fn enclosed_end(&self, from: Spot, close: u8) -> Result<Spot, ReadStop>

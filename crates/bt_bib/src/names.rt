@@ -1,15 +1,17 @@
 //! Names, and what may follow them.
 
-ghost use Rattle.std.specs.Prelude.{◌≡◌, ◌==◌};
-ghost use Rattle.std.specs.List.{list_any};
+ghost use Rattle.std.specs.Prelude.{◌≡◌, ◌≤◌, ◌==◌, ◌&&◌, not, length};
+ghost use Rattle.std.specs.List.{list_any, take_while};
+ghost use Rattle.bt_text.specs.ByteTests.{is_digit, is_small};
+ghost use Rattle.bt_text.specs.NameBytes.{is_name_byte};
 ghost use Rattle.bt_bib.specs.Spot.{here};
-ghost use Rattle.bt_bib.specs.inner.Spot.{IsIn};
+ghost use Rattle.bt_bib.specs.Scan.{after_run};
+ghost use Rattle.bt_bib.specs.inner.Spot.{IsAhead, IsIn};
 ghost use Rattle.bt_bib.specs.inner.Stop.{Finds, Gives};
 ghost use Rattle.bt_bib.specs.Names.{name_ended, name, word};
 
 use crate::fault::{ItemFault, NameRole};
 use crate::reader::Reader;
-use crate::scan::Class;
 use crate::spot::Spot;
 use crate::stop::ReadStop;
 use bt_text::{Bytes, Shared, is_digit, is_name_byte, is_white};
@@ -20,9 +22,51 @@ fn is_one_of(signs: &[u8], byte: u8) -> bool
     signs.iter().any(|sign| *sign == byte)
 }
 
+fn is_small(byte: u8) -> bool
+    ensures { result ≡ is_small byte }
+{
+    matches!(byte, b'a'..=b'z')
+}
+
+/// Whether names may hold a byte. Most bytes of names are small letters, and for these one comparison is enough.
+#[tactic(auto, using(crate::proofs::RunLemmas::small_named))]
+fn in_names(byte: u8) -> bool
+    ensures { result ≡ is_name_byte byte }
+{
+    is_small(byte) || is_name_byte(byte)
+}
+
+#[tactic(auto, using(crate::proofs::RunLemmas::small_begins))]
+fn begins_names(byte: u8) -> bool
+    ensures { result ≡ is_name_byte byte && not (is_digit byte) }
+{
+    is_small(byte) || (is_name_byte(byte) && !is_digit(byte))
+}
+
+fn name_bytes_len(text: &[u8]) -> usize
+    ensures within { result ≤ length text.now }
+    ensures len { result ≡ length (take_while is_name_byte text.now) }
+{
+    text.iter().take_while(|byte| in_names(**byte)).count()
+}
+
 impl Reader<'_> {
+    /// The place after the longest run of name bytes. None of them is a line feed.
+    fn after_name(&self, from: Spot) -> Spot
+        requires { IsIn self.now.text.now from }
+        ensures value { here self.now.text.now result ≡ after_run is_name_byte (here self.now.text.now from) }
+        ensures inside { IsAhead self.now.text.now from result }
+    {
+        let len = name_bytes_len(&self.text[from.place..]);
+        Spot {
+            place: from.place + len,
+            line: from.line,
+        }
+    }
+
     /// The longest run of name bytes, which must not begin with a digit.
     #[tactic(auto, unfolding(crate::specs::Names::word))]
+    #[inline(always)]
     pub fn word(&self, from: Spot, what: NameRole) -> Result<(Shared<Bytes>, Spot), ReadStop>
         requires { IsIn self.now.text.now from }
         ensures { Gives self.now.text.now from result (word what (here self.now.text.now from)) }
@@ -30,8 +74,8 @@ impl Reader<'_> {
         let Some(byte) = self.peek(from) else {
             return Err(ReadStop::Stopped(ItemFault::EndOfFile, from));
         };
-        if is_name_byte(byte) && !is_digit(byte) {
-            let end = self.after_run(from, Class::Name);
+        if begins_names(byte) {
+            let end = self.after_name(from);
             let name = self.name_of(&self.text[from.place..end.place])?;
             Ok((name, end))
         } else {

@@ -5,7 +5,8 @@
 //! text in memory after an edit.
 //!
 //! Databases repeat a few names in each entry. The reader of a whole database allocates them once and shares them,
-//! which saves two allocations for nearly every field. A name is compared only with those of its length.
+//! which saves two allocations for nearly every field. Three bytes of a name say which known name it can be, so it is
+//! compared with one at most.
 
 ghost use Rattle.std.specs.Prelude.{◌≡◌, ◌≤◌, length, slice_range, IfOk};
 
@@ -23,63 +24,52 @@ pub struct Reader<'a> {
     pub source: &'a Excerpt,
     /// The offset of the text in the source.
     pub offset: usize,
-    /// Names that are shared instead of copied each time they occur: `ROW` for each length, beginning with 0 bytes.
+    /// Names that are shared instead of copied each time they occur, each in its slot. Other slots hold an empty name.
     pub known: &'a [Shared<Bytes>],
 }
 
 /// The longest copy of an item's text. Most items are shorter; the later values of a longer one are copied one by one.
 const ITEM_BYTES: usize = 4_096;
 
-/// How many known names there are for each length. Empty ones fill up a row.
-const ROW: usize = 16;
+/// How many slots the table of known names has. With this number and the factors in `slot`, no two of `COMMON_NAMES`
+/// share a slot. If they did, one of them would be copied each time.
+const SLOTS: usize = 512;
 
-/// Names that most databases repeat, fields and types: those with no byte, with one, with two and so on.
-const COMMON_NAMES: [&[u8]; 16] = [
-    b"",
-    b"",
-    b"",
-    b"url doi URL DOI",
-    b"year note isbn issn ISSN ISBN book Book misc Misc LCCN file date",
-    b"title pages month CODEN",
-    b"author volume number editor series school ISSN-L eprint biburl annote manual Manual",
-    b"journal address edition chapter bibdate article Article urldate",
-    b"crossref abstract keywords language fjournal",
-    b"publisher booktitle bibsource timestamp phdthesis PhdThesis",
-    b"techreport TechReport shorttitle",
-    b"institution proceedings Proceedings unpublished journal-URL",
-    b"howpublished organization incollection InCollection",
-    b"inproceedings InProceedings mastersthesis MastersThesis",
-    b"",
-    b"acknowledgement",
-];
+/// Names that most databases repeat: fields, types, and the months as macros.
+const COMMON_NAMES: &[u8] =
+    b"url doi URL DOI year note isbn issn ISSN ISBN book Book misc Misc LCCN file date \
+title pages month CODEN author volume number editor series school ISSN-L eprint biburl annote manual Manual \
+journal address edition chapter bibdate article Article urldate crossref abstract keywords language fjournal \
+publisher booktitle bibsource timestamp phdthesis PhdThesis techreport TechReport shorttitle \
+institution proceedings Proceedings unpublished journal-URL howpublished organization incollection InCollection \
+inproceedings InProceedings mastersthesis MastersThesis acknowledgement \
+jan feb mar apr may jun jul aug sep oct nov dec";
 
-/// Appends the names of a list, and the empty name, until a row is full.
-fn push_row(
-    alloc: Global,
-    list: &[u8],
-    empty: &Shared<Bytes>,
-    names: &mut Vec<Shared<Bytes>>,
-) -> Result<(), AllocError> {
-    let mut left = ROW;
-    'names: for name in list.split(|byte| *byte == b' ') {
-        if left > 0 {
-            left -= 1;
-            names.push(Shared::<Bytes>::copied(alloc, name)?)?;
+/// The only slot in which this name can be known.
+fn slot(name: &[u8]) -> usize {
+    match name {
+        [first, .., last] => {
+            let middle = name[name.len() / 2];
+            (usize::from(*first) * 4 + usize::from(*last) * 33 + usize::from(middle) * 17) % SLOTS
         }
+        _ => 0,
     }
-    'rest: for _ in 0..left {
-        names.push(empty.share()?)?;
-    }
-    Ok(())
 }
 
 /// The names that most databases repeat, for the reader of a whole one. The result is the same whichever names it
 /// knows.
 pub fn common_names(alloc: Global) -> Result<Vec<Shared<Bytes>>, AllocError> {
     let empty = Shared::new(alloc, Bytes::new(alloc))?;
-    let mut names = Vec::with_capacity(alloc, COMMON_NAMES.len() * ROW)?;
-    'rows: for list in COMMON_NAMES.iter() {
-        push_row(alloc, list, &empty, &mut names)?;
+    let mut names = Vec::with_capacity(alloc, SLOTS)?;
+    'slots: for _ in 0..SLOTS {
+        names.push(empty.share()?)?;
+    }
+    'names: for name in COMMON_NAMES.split(|byte| *byte == b' ') {
+        let name_slot = slot(name);
+        let known = Shared::<Bytes>::copied(alloc, name)?;
+        if name_slot < names.len() {
+            names[name_slot] = known;
+        }
     }
     Ok(names)
 }
@@ -115,9 +105,7 @@ impl Reader<'_> {
     pub fn name_of(&self, bytes: &[u8]) -> Result<Shared<Bytes>, AllocError>
         ensures { IfOk result (λ name. name ≡ bytes.now) }
     {
-        let start = bytes.len().saturating_mul(ROW);
-        let end = start.saturating_add(ROW);
-        'known: for name in self.known.get(start..end).unwrap_or(&[]) {
+        if let Some(name) = self.known.get(slot(bytes)) {
             if name.as_slice() == bytes {
                 return name.share();
             }

@@ -4,7 +4,7 @@
 //! still has the places before it.
 
 ghost use Rattle.std.specs.Prelude.{◌≡◌, ◌<◌, ◌≤◌, ◌+◌, count_by, drop, length, take};
-ghost use Rattle.bt_text.specs.ByteTests.{is_line_feed, is_small};
+ghost use Rattle.bt_text.specs.ByteTests.{is_line_feed};
 ghost use Rattle.bt_bib.specs.Spot.{after_byte, here, spot_after};
 ghost use Rattle.bt_bib.specs.inner.Spot.{IsAhead, IsIn};
 ghost use Rattle.bt_bib.specs.Scan.{closing_sign, first, is_key_byte, after_run, run, sign, after_white};
@@ -16,7 +16,7 @@ use crate::item::Closing;
 use crate::reader::Reader;
 use crate::spot::Spot;
 use crate::stop::ReadStop;
-use bt_text::{Bytes, Excerpt, Shared, is_digit, is_name_byte, is_white};
+use bt_text::{Bytes, Excerpt, Shared, is_digit, is_white};
 use memchr::memchr;
 use std::alloc::AllocError;
 
@@ -25,7 +25,6 @@ use std::alloc::AllocError;
 pub enum Class {
     White,
     Digit,
-    Name,
     /// The bytes of a key in an item with this closing sign.
     Key(Closing),
 }
@@ -41,12 +40,6 @@ impl Closing {
     }
 }
 
-fn is_small(byte: u8) -> bool
-    ensures { result ≡ is_small byte }
-{
-    matches!(byte, b'a'..=b'z')
-}
-
 fn is_key_byte(close: Closing, byte: u8) -> bool
     ensures { result ≡ is_key_byte close byte }
 {
@@ -57,15 +50,14 @@ fn is_key_byte(close: Closing, byte: u8) -> bool
 }
 
 impl Class {
-    #[tactic(auto, using(crate::proofs::RunLemmas::small_named))]
+    #[tactic(auto, using(crate::proofs::RunLemmas::white_low))]
     pub fn has(self, byte: u8) -> bool
         ensures { result ≡ has self byte }
     {
         match self {
-            Class::White => is_white(byte),
+            // Most bytes are beyond the space, and for these one comparison is enough.
+            Class::White => byte <= b' ' && is_white(byte),
             Class::Digit => is_digit(byte),
-            // Most bytes of a name are small letters, and for these one comparison is enough.
-            Class::Name => is_small(byte) || is_name_byte(byte),
             Class::Key(close) => is_key_byte(close, byte),
         }
     }

@@ -1,11 +1,12 @@
 //! Values: one part, or several joined by `#`.
 
+ghost use Rattle.std.specs.Prelude.{◌≡◌};
 ghost use Rattle.bt_bib.specs.Spot.{here};
 ghost use Rattle.bt_bib.specs.inner.Spot.{IsIn};
 ghost use Rattle.bt_bib.specs.inner.Stop.{Gives};
 ghost use Rattle.bt_bib.specs.Many.{all, collected};
 ghost use Rattle.bt_bib.specs.Values.{next_part, part, value};
-ghost use Rattle.bt_bib.specs.inner.Cases.{raw_part};
+ghost use Rattle.bt_bib.specs.inner.Cases.{is_joined, raw_part};
 
 use crate::fault::{ItemFault, NameRole};
 use crate::item::{Closing, Part};
@@ -43,6 +44,7 @@ impl Reader<'_> {
 
     /// A part of a value, and the white space after it.
     #[tactic(auto, unfolding(crate::specs::Values::part))]
+    #[inline(always)]
     fn part(&self, from: Spot, close: Closing) -> Result<(Part, Spot), ReadStop>
         requires { IsIn self.now.text.now from }
         ensures { Gives self.now.text.now from result (part close (here self.now.text.now from)) }
@@ -64,6 +66,16 @@ impl Reader<'_> {
             Ok((Some(part), end))
         } else {
             Ok((None, from))
+        }
+    }
+
+    /// Whether another part follows.
+    fn is_joined(&self, at: Spot) -> bool
+        ensures { result ≡ is_joined (here self.now.text.now at) }
+    {
+        match self.peek(at) {
+            None => false,
+            Some(byte) => byte == b'#',
         }
     }
 
@@ -90,12 +102,18 @@ impl Reader<'_> {
     }
 
     /// A value, and the white space after it.
-    #[tactic(auto, unfolding(crate::specs::Values::value))]
+    #[tactic(auto, unfolding(crate::specs::Values::value), using(crate::proofs::FieldLemmas::alone))]
+    #[inline(always)]
     pub fn value(&self, from: Spot, close: Closing) -> Result<(ValueParts, Spot), ReadStop>
         requires { IsIn self.now.text.now from }
         ensures { Gives self.now.text.now from result (value close (here self.now.text.now from)) }
     {
         let (first, end) = self.part(from, close)?;
-        self.others(end, close, ValueParts::one(first))
+        let parts = ValueParts::one(first);
+        if self.is_joined(end) {
+            self.others(end, close, parts)
+        } else {
+            Ok((parts, end))
+        }
     }
 }

@@ -29,7 +29,7 @@ use Rattle.bt_bib.specs.declared.spot.Spot.{Spot}
 use Rattle.bt_text.specs.ByteTests.{is_digit, is_white, left_brace, right_brace}
 use Rattle.bt_text.specs.NameBytes.{is_name_byte}
 use Rattle.std.specs.List.{list_any}
-use Rattle.std.specs.Prelude.{[], Bool, Err, List, None, Ok, Option, Result, Some, codes, if◌then◌else◌, not, ℕ, ◌&&◌, ◌==◌, ◌||◌, ◌∷◌}
+use Rattle.std.specs.Prelude.{[], Bool, false, Err, List, None, Ok, Option, Result, Some, codes, if◌then◌else◌, not, ℕ, ◌&&◌, ◌==◌, ◌||◌, ◌∷◌}
 
 abbrev pub type_ended : List ℕ → Result Here Stop → Piece × Here
 type_ended kind (Err stop) = unopened (unread_entry (Some kind)) stop
@@ -152,3 +152,11 @@ next_field_from close h (Some b) =
 abbrev pub enclosed_by : ℕ → List ℕ → Here → Option ℕ → Result (List ℕ × Here) Stop
 enclosed_by close text end None = Err (EndOfFile, end)
 enclosed_by close text end (Some b) = if b == close then Ok (text, end) else Err (UnbalancedBraces, end)
+
+-- whether another part of the value follows
+abbrev pub is_hash : Option ℕ → Bool
+is_hash None = false
+is_hash (Some b) = b == 35
+
+abbrev pub is_joined : Here → Bool
+is_joined h = is_hash (first h.rest)

@@ -21,7 +21,7 @@ pub bytes-preserved : goal.bytes-preserved
 bytes-preserved c = record {
   inside = search rules;
   shallow = omega (arith, c.in-Goes.ensures.near, ap (λ (s : Spot). s.place) c.after.ensures, c.past_plain-at.ensures.inside.order);
-  same = enclosed_jumps c.args.close c.in-Goes.next c.args.self.now.text.now c.after.result c.past_plain-at.result c.past_plain-at.ensures.value ∙ ap (λ s. enclosed_run c.args.close c.in-Goes.next s (drop s.place c.args.self.now.text.now)) c.after.ensures ∙ enclosed_goes c.args.close c.bytes.depth c.in-Goes.next c.args.self.now.text.now c.bytes.at c.bytes-test.true c.in-Goes.ensures.value ∙ c.bytes.invariant.same;
+  same = enclosed_jumps c.args.close c.in-Goes.next c.args.self.now.text.now c.after.result c.past_plain-at.result c.past_plain-at.ensures.inside.order c.past_plain-at.ensures.value ∙ ap (λ s. enclosed_run c.args.close c.in-Goes.next s (drop s.place c.args.self.now.text.now)) c.after.ensures ∙ enclosed_goes c.args.close c.bytes.depth c.in-Goes.next c.args.self.now.text.now c.bytes.at c.bytes-test.true c.in-Goes.ensures.value ∙ c.bytes.invariant.same;
 }
 
 pub returns : goal.returns
