@@ -94,16 +94,19 @@ impl Reader<'_> {
     {
         let mut at = from;
         let mut depth = 0;
-        'bytes: while at.place < self.text.len() {
-            let byte = self.text[at.place];
-            match Turn::of(close, depth, byte) {
-                Turn::Closes => return Ok(at),
-                Turn::Breaks => return Err(ReadStop::Stopped(ItemFault::UnbalancedBraces, at)),
-                Turn::Goes(next) => depth = next,
+        'bytes: loop {
+            let next = self.past_plain(at, close);
+            if next.place >= self.text.len() {
+                return Err(ReadStop::Stopped(ItemFault::EndOfFile, next));
             }
-            at = self.past_plain(at.after(byte), close);
+            let byte = self.text[next.place];
+            match Turn::of(close, depth, byte) {
+                Turn::Closes => return Ok(next),
+                Turn::Breaks => return Err(ReadStop::Stopped(ItemFault::UnbalancedBraces, next)),
+                Turn::Goes(open) => depth = open,
+            }
+            at = next.after(byte);
         }
-        Err(ReadStop::Stopped(ItemFault::EndOfFile, at))
     }
 
     /// The text from here up to the byte that closes it, and that byte's place.

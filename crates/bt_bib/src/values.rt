@@ -17,6 +17,7 @@ use crate::value_parts::ValueParts;
 use bt_text::{is_digit, is_name_byte};
 
 impl Reader<'_> {
+    #[inline(always)]
     fn raw_part(&self, from: Spot, close: Closing) -> Result<(Part, Spot), ReadStop>
         requires { IsIn self.now.text.now from }
         ensures { Gives self.now.text.now from result (raw_part close (here self.now.text.now from)) }
