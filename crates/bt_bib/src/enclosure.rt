@@ -64,7 +64,8 @@ fn is_plain(close: u8, byte: u8) -> bool
 }
 
 impl Reader<'_> {
-    /// The next byte that may matter, or a place before it.
+    /// Skips plain bytes: the place of the next byte that matters, or one before it, because a search covers at most `NEAR`
+    /// bytes and, between braces, stops at line feeds.
     fn past_plain(&self, from: Spot, close: u8) -> Spot
         requires { IsIn self.now.text.now from }
         ensures value { IsPlainUpto close self.now.text.now from result }
@@ -88,6 +89,8 @@ impl Reader<'_> {
         }
     }
 
+    /// The place of the byte that closes the text. It stops with `EndOfFile`, or with `UnbalancedBraces` at a right brace too
+    /// many.
     fn enclosed_end(&self, from: Spot, close: u8) -> Result<Spot, ReadStop>
         requires { IsIn self.now.text.now from }
         ensures { Finds self.now.text.now from result (enclosed_end close (here self.now.text.now from)) }

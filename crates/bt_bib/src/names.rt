@@ -36,6 +36,7 @@ fn in_names(byte: u8) -> bool
     is_small(byte) || is_name_byte(byte)
 }
 
+/// Whether a name may begin with a byte: any byte of names but a digit.
 #[tactic(auto, using(crate::proofs::RunLemmas::small_begins))]
 fn begins_names(byte: u8) -> bool
     ensures { result ≡ is_name_byte byte && not (is_digit byte) }
@@ -43,6 +44,7 @@ fn begins_names(byte: u8) -> bool
     is_small(byte) || (is_name_byte(byte) && !is_digit(byte))
 }
 
+/// How many bytes of names the text begins with.
 fn name_bytes_len(text: &[u8]) -> usize
     ensures within { result ≤ length text.now }
     ensures len { result ≡ length (take_while is_name_byte text.now) }
@@ -51,7 +53,7 @@ fn name_bytes_len(text: &[u8]) -> usize
 }
 
 impl Reader<'_> {
-    /// The place after the longest run of name bytes. None of them is a line feed.
+    /// The place after the longest run of name bytes. No name byte is a line feed, so the line stays the same.
     fn after_name(&self, from: Spot) -> Spot
         requires { IsIn self.now.text.now from }
         ensures value { here self.now.text.now result ≡ after_run is_name_byte (here self.now.text.now from) }
@@ -64,7 +66,8 @@ impl Reader<'_> {
         }
     }
 
-    /// The longest run of name bytes, which must not begin with a digit.
+    /// The longest run of name bytes, which must not begin with a digit. It stops with `EndOfFile` at the end of the text, and
+    /// with `MissingName` if no name begins here.
     #[tactic(auto, unfolding(crate::specs::Names::word))]
     #[inline(always)]
     pub fn word(&self, from: Spot, what: NameRole) -> Result<(Shared<Bytes>, Spot), ReadStop>

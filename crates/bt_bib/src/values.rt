@@ -109,6 +109,7 @@ impl Reader<'_> {
         requires { IsIn self.now.text.now from }
         ensures { Gives self.now.text.now from result (value close (here self.now.text.now from)) }
     {
+        // Nearly all values have one part, and need no loop.
         let (first, end) = self.part(from, close)?;
         let parts = ValueParts::one(first);
         if self.is_joined(end) {

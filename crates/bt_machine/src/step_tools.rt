@@ -13,7 +13,7 @@ pub struct StepTools {
 }
 
 impl StepTools {
-    /// Tools for the steps of any style.
+    /// Tools that know no pattern, for a single step. They take no memory.
     pub fn new(alloc: Global) -> Self {
         StepTools {
             patterns: SoundPatterns::none(alloc),

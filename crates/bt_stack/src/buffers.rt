@@ -1,7 +1,9 @@
 //! Buffers that the steps of a run use one after another.
 //!
-//! A step needs several buffers for a short time. If each allocated its own, that would take a third of what a short step
-//! takes. They are empty whenever a step gets them, so no step sees anything of another.
+//! Allocating its buffers took a third of a short step's time. So a step gives them back, and the next one uses them. They
+//! are emptied first, or by each user before it writes (`scratch`), so no step sees anything of another. Buffers never
+//! shrink: the largest step decides how much memory they keep until the run ends. The stack's values have a vector of
+//! their own in each step, because they may borrow from its input.
 
 ghost use Rattle.std.specs.Prelude.{◌≡◌, []};
 
@@ -10,7 +12,7 @@ use std::alloc::Global;
 use std::marker::Model;
 use std::mem;
 
-/// The buffer without its elements, in whose place there is one without memory.
+/// The memory of a buffer, without its elements. It leaves a buffer without memory.
 fn emptied<T: Drop>(alloc: Global, buffer: &mut Vec<T>) -> Vec<T>
     ensures { result.items ≡ [] }
 {
@@ -96,7 +98,7 @@ impl StepBuffers {
         emptied(alloc, &mut self.pool)
     }
 
-    /// A buffer for bytes on their way into the pool.
+    /// A buffer for bytes on their way into the pool. It may hold old bytes.
     pub(crate) fn take_scratch(&mut self, alloc: Global) -> Vec<u8> {
         mem::replace(&mut self.scratch, Vec::new(alloc))
     }

@@ -1,5 +1,6 @@
-//! How two kept texts become one. The text that was made last ends the pool, so joining a piece to it copies only the
-//! piece: a title of ten pieces isn't copied ten times.
+//! How two kept texts become one, and how a text gets into the pool. The text that was written last ends the pool, so joining
+//! a piece to it copies only the piece: a title of ten pieces isn't copied ten times. If `:=` or `format.name$` wrote behind
+//! it, it is copied once more.
 
 ghost use Rattle.std.specs.Prelude.{◌≡◌, true, ◌≤◌, ◌++◌, ◌+◌, length, drop, option_map, IfSome, IfOk, OnOk, OnErr};
 ghost use Rattle.bt_actions.specs.Item.{Txt};
@@ -103,7 +104,8 @@ pub fn join<'a>(
     }
 }
 
-/// A kept text as one that lies in the pool. It is copied to the end of the pool if it lies elsewhere.
+/// The same text as a range of the pool. It is copied to the end of the pool if it lies elsewhere. The only error is out of
+/// memory.
 #[inline(always)]
 #[tactic(auto, using(crate::proofs::JoinLemmas::put_last_part))]
 pub fn in_pool(pool: &mut Vec<u8>, value: Value) -> Result<Value<'static>, AllocError>

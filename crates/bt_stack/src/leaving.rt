@@ -68,8 +68,8 @@ impl<'a> State<'a> {
         (held, lines)
     }
 
-    /// What the step leaves. Only the values of variables that the step changed and the words of its messages are copied.
-    /// The state is of no use after this, and its buffers are given back.
+    /// What the step leaves. Its variables take the pool with them; only the words of its messages are copied. The state is
+    /// of no use after this. The only error is out of memory.
     #[inline(never)]
     pub fn leave(&mut self, alloc: Global) -> Result<Left, AllocError>
         ensures { IfOk result (λ left. left ≡ left_of (world_of self.old)) }

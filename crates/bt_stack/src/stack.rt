@@ -1,8 +1,9 @@
 //! The literal stack of a step, the step's variables, and the pool with the texts that the step made.
 //!
-//! A text that the step made is a range of the pool. Bytes are only added to the pool, so a range stays valid:
-//! `duplicate$` and `:=` copy a range and no bytes. Only a sweep moves texts, with all ranges at once. No caller sees a
-//! range; contracts speak of the items and the variables as if each owned its text.
+//! A text in the pool is a range of it. Bytes are only added to the pool, so a range stays valid, and `duplicate$` copies a
+//! range and no bytes. `:=` first copies a text from elsewhere into the pool. So no text of a variable borrows from the
+//! step's input, and the next step can reuse the buffers. Only a sweep moves texts, with all ranges at once. No caller sees
+//! a range; contracts speak of the items and the variables as if each owned its text.
 
 ghost use Rattle.std.specs.Prelude.{◌≡◌, ◌≤◌, ◌<◌, [], ◌∷◌, length, drop, slice_get, option_copied, option_map, option_and_then, IfSome, IfOk, OnOk, OnErr};
 ghost use Rattle.bt_style.specs.Program.{program_of};
@@ -31,8 +32,8 @@ mod variables;
 /// No pool is swept before it has this many bytes. Few steps make more.
 const SWEEP_BYTES: usize = 65_536;
 
-/// How many bytes of texts there is room for at a step's beginning. Most steps need no more, and up to 1,032 bytes malloc
-/// keeps a free block at hand.
+/// How many bytes the pool and the buffer beside it have room for when a step begins. Most steps need no more, and up to
+/// 1,032 bytes malloc keeps a free block at hand.
 const FIRST_BYTES: usize = 1_024;
 
 /// How many values there is room for at a step's beginning. Most steps need no more; it is 1,008 bytes.
@@ -45,7 +46,7 @@ pub struct Stack<'a> {
     values: Vec<Value<'a>>,
     globals: StepVariables<'a>,
     own: StepVariables<'a>,
-    /// The texts that the step made, one after another.
+    /// The texts that the step made or gave to variables, one after another.
     pool: Vec<u8>,
     /// A buffer for bytes on their way into the pool.
     scratch: Vec<u8>,

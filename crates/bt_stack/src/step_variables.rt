@@ -21,6 +21,7 @@ const FIRST_VARIABLES: usize = 42;
 pub struct StepVariables<'a> {
     pub given: &'a Shared<Variables>,
     pub numbers: Vec<Option<i32>>,
+    /// Each lies in the pool and borrows nothing, so the vector can serve another step.
     pub texts: Vec<Value<'static>>,
 }
 

@@ -10,8 +10,8 @@ pub enum Value<'a> {
     Number(i32),
     /// A text that the style or the step's input has.
     Given(&'a [u8]),
-    /// A text that this step made: where it starts in the pool, and its length. A slice has two words, too, and two
-    /// words need no limit on the pool.
+    /// A text in the pool, which the step made or copied there for a variable: where it starts, and its length. A slice has
+    /// two words, too, and two words need no limit on the pool.
     Made(usize, usize),
     /// A quoted name.
     Name(Target),

@@ -1,8 +1,8 @@
 //! The variables that a step leaves.
 //!
-//! Each text that the step gave to a variable lies in its pool, which is left with it. So nothing here borrows from the
-//! step's input, and a caller that needs the input no longer can drop it. If then the variables that the step was given have
-//! no other owner, the values are put into them, otherwise into a copy.
+//! Each text that the step gave to a variable lies in its pool, which is kept here too. So nothing here borrows from the
+//! step's input, and the caller can drop the input. If nothing else owns the given variables then, the values are put into
+//! them, otherwise into a copy.
 
 ghost use Rattle.std.specs.Prelude.{◌≡◌, [], length, slice_get, option_map, IfOk, IfSome, OnOk};
 ghost use Rattle.bt_actions.specs.Arguments.{as_text};
@@ -125,7 +125,7 @@ pub struct ChangedVariables {
 }
 
 impl ChangedVariables {
-    /// What the step leaves of variables, of which `given` are those that it was given. No value is left there.
+    /// Takes the step's values out of `variables`. `given` is another owner of the variables that the step was given.
     pub(crate) fn of(
         alloc: Global,
         given: Shared<Variables>,
@@ -142,7 +142,8 @@ impl ChangedVariables {
         }
     }
 
-    /// The variables for many owners. Their texts lie in this pool. The buffers are given back.
+    /// The variables for many owners; their texts lie in this pool. Puts both vectors back into `buffers`, except after out of
+    /// memory.
     fn settled(
         self,
         alloc: Global,
@@ -233,8 +234,8 @@ impl VariablesLeft {
         }
     }
 
-    /// The variables for many owners. Those that the step was given are changed in place if they have no other owner. The
-    /// step's buffers are given back.
+    /// The variables for many owners. Those that the step was given are changed in place if they have no other owner. Puts the
+    /// step's buffers back into `buffers`, except after out of memory.
     pub fn settled(
         self,
         alloc: Global,

@@ -48,7 +48,7 @@ impl<'a> Stack<'a> {
     }
 
     /// An empty buffer to write a text into, while the arguments are read where they lie. `answer_text` takes it back,
-    /// so the same block serves all texts of a step.
+    /// so one block serves all texts, and all steps that share buffers.
     pub fn take_page(&mut self, alloc: Global) -> Vec<u8>
         ensures empty { result.items ≡ [] }
         ensures same { self.new ≡ self.old }

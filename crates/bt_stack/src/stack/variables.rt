@@ -172,7 +172,8 @@ impl<'a> Stack<'a> {
         }
     }
 
-    /// The variables as they are now; those of the entry only if there is one. The stack keeps nothing of them.
+    /// Takes the variables as they are now out of the stack, with the pool; those of the entry only if there is one. The stack
+    /// is empty then. After out of memory, nothing has moved.
     pub fn variables_left(
         &mut self,
         alloc: Global,

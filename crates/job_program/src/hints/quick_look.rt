@@ -129,14 +129,18 @@ fn has_wrong_field<'a>(
     Ok(has_wrong_name(text, names_from, text.len()))
 }
 
-/// The key of an item whose `@` is before this text, unless another `@` comes before its opening sign.
+/// The longest key that is looked at. Otherwise many `@` would each search the whole text.
+const LONGEST_KEY: usize = 1_000;
+
+/// The key of the item whose `@` is before this text. There is none if another `@` comes before its opening sign.
 fn key(item: &[u8]) -> Option<&[u8]> {
     let open = memchr3(b'{', b'(', b'@', item)?;
     if item.get(open) == Some(&b'@') {
         return None;
     }
     let rest = after(item, open);
-    rest.split(|byte| *byte == b'}' || ends_word(*byte)).next()
+    let near = rest.get(..LONGEST_KEY).unwrap_or(rest);
+    near.split(|byte| *byte == b'}' || ends_word(*byte)).next()
 }
 
 fn has_other_key(alloc: Global, text: &[u8], parents: &Parents<'_>) -> Result<bool, AllocError> {
