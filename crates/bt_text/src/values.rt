@@ -1,6 +1,6 @@
 //! Values by their places. Copies share what they have in common, if there are many.
 //!
-//! A step that assigns a variable copies the variables at its end, unless nothing else owns them, and changes few of them. Usual styles have fewer
+//! A step of a style copies the variables when it first assigns one, and changes few of them. Usual styles have fewer
 //! than 64, and copying a short vector is faster than sharing. A style may declare thousands, so beyond 64 the values are
 //! in chunks that copies share.
 
