@@ -1,6 +1,6 @@
 -- The next part and the next field each leave fewer bytes.
 use Rattle.std.specs.Prelude.{◌==◌}
-use Rattle.std.proofs.Common.{◌≡◌, ℕ, false, cond, List, [], ◌∷◌, Option, Some, None, Ok, refl, ap, arith}
+use Rattle.std.proofs.Common.{◌≡◌, ℕ, false, List, [], ◌∷◌, Option, Some, None, Ok, refl, ap, arith}
 use Rattle.bt_bib.specs.declared.spot.Spot.{Spot}
 use Rattle.bt_bib.specs.declared.item.Closing.{Closing}
 use Rattle.bt_bib.specs.Spot.{Here, at, spot_after_byte}

@@ -16,7 +16,7 @@ use crate::items::Items;
 use crate::placed_pieces::PlacedPiece;
 use crate::reader::{Reader, common_names};
 use crate::spot::Spot;
-use bt_text::{Excerpt, Shared};
+use bt_text::{Bytes, Shared};
 use memchr::memchr;
 use std::alloc::{AllocError, Global};
 
@@ -93,7 +93,7 @@ pub fn read_bib(alloc: Global, text: &[u8]) -> Result<Items, AllocError>
     ensures { IfOk result (λ items. items ≡ pieces_of text.now) }
 {
     let known = common_names(alloc)?;
-    let none = Excerpt::copied(alloc, b"")?;
+    let none = Shared::<Bytes>::copied(alloc, b"")?;
     let reader = Reader {
         alloc,
         text,

@@ -30,7 +30,7 @@ fn is_small(byte: u8) -> bool
 
 /// Whether names may hold a byte. Most bytes of names are small letters, and for these one comparison is enough.
 #[tactic(auto, using(crate::proofs::RunLemmas::small_named))]
-fn in_names(byte: u8) -> bool
+fn may_be_in_name(byte: u8) -> bool
     ensures { result ≡ is_name_byte byte }
 {
     is_small(byte) || is_name_byte(byte)
@@ -38,7 +38,7 @@ fn in_names(byte: u8) -> bool
 
 /// Whether a name may begin with a byte: any byte of names but a digit.
 #[tactic(auto, using(crate::proofs::RunLemmas::small_begins))]
-fn begins_names(byte: u8) -> bool
+fn may_begin_name(byte: u8) -> bool
     ensures { result ≡ is_name_byte byte && not (is_digit byte) }
 {
     is_small(byte) || (is_name_byte(byte) && !is_digit(byte))
@@ -49,7 +49,9 @@ fn name_bytes_len(text: &[u8]) -> usize
     ensures within { result ≤ length text.now }
     ensures len { result ≡ length (take_while is_name_byte text.now) }
 {
-    text.iter().take_while(|byte| in_names(**byte)).count()
+    text.iter()
+        .take_while(|byte| may_be_in_name(**byte))
+        .count()
 }
 
 impl Reader<'_> {
@@ -77,7 +79,7 @@ impl Reader<'_> {
         let Some(byte) = self.peek(from) else {
             return Err(ReadStop::Stopped(ItemFault::EndOfFile, from));
         };
-        if begins_names(byte) {
+        if may_begin_name(byte) {
             let end = self.after_name(from);
             let name = self.name_of(&self.text[from.place..end.place])?;
             Ok((name, end))

@@ -5,7 +5,7 @@ ghost use Rattle.std.specs.Prelude.{◌≡◌, IfOk};
 use crate::placed_pieces::PlacedPiece;
 use crate::reader::{Reader, common_names};
 use crate::spot::Spot;
-use bt_text::{Bytes, Excerpt, Shared};
+use bt_text::{Bytes, Shared};
 use std::alloc::{AllocError, Global};
 use std::marker::Model;
 
@@ -13,7 +13,7 @@ use std::marker::Model;
 #[derive(Drop)]
 pub struct PieceCursor<'a> {
     alloc: Global,
-    text: &'a Excerpt,
+    text: &'a Shared<Bytes>,
     /// Names that are shared instead of copied each time they occur.
     known: Vec<Shared<Bytes>>,
     /// Where the next piece is looked for.
@@ -40,7 +40,7 @@ impl<'a> PieceCursor<'a> {
 
     /// A cursor before the first piece of a text. Field values are excerpts of that text. The only error is out of memory.
     #[tactic(auto, unfolding(crate::specs::BibText::pieces_of))]
-    pub fn of(alloc: Global, text: &'a Excerpt) -> Result<Self, AllocError>
+    pub fn of(alloc: Global, text: &'a Shared<Bytes>) -> Result<Self, AllocError>
         ensures { IfOk result (λ cursor. cursor ≡ pieces_of text.now) }
     {
         let known = common_names(alloc)?;

@@ -21,7 +21,7 @@ pub struct Reader<'a> {
     /// Whether items are kept. Then each has a copy of its own text, and its lists are as short as they can be.
     pub keeps: bool,
     /// What values are excerpts of. It isn't used before the first item of a reader that keeps them.
-    pub source: &'a Excerpt,
+    pub source: &'a Shared<Bytes>,
     /// The offset of the text in the source.
     pub offset: usize,
     /// Names that are shared instead of copied each time they occur, each in its slot. Other slots hold an empty name.
@@ -81,12 +81,12 @@ impl Reader<'_> {
         ensures { IfOk result (λ excerpt. excerpt ≡ slice_range self.now.text.now start end) }
     {
         let place = self.offset.saturating_add(start);
-        self.source.part(self.alloc, place, &self.text[start..end])
+        Excerpt::at(self.alloc, self.source, place, &self.text[start..end])
     }
 
     /// The text that the item's values are excerpts of, and where the item begins in it. For an item that is kept, this is
     /// a copy of the text up to the next `@`, at most `ITEM_BYTES`; most items end before it.
-    pub fn item_source(&self, start: usize) -> Result<(Excerpt, usize), AllocError>
+    pub fn item_source(&self, start: usize) -> Result<(Shared<Bytes>, usize), AllocError>
         requires { start ≤ length self.now.text.now }
     {
         if !self.keeps {
@@ -98,7 +98,7 @@ impl Reader<'_> {
             None => near.len(),
             Some(place) => place + 1,
         };
-        Ok((Excerpt::copied(self.alloc, &near[..len])?, 0))
+        Ok((Shared::<Bytes>::copied(self.alloc, &near[..len])?, 0))
     }
 
     /// The known name with these bytes, or else a new one.

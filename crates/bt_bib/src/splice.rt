@@ -12,7 +12,7 @@ use crate::boundaries::{count_below, last_boundary};
 use crate::items::Items;
 use crate::reader::Reader;
 use crate::spot::Spot;
-use bt_text::Excerpt;
+use bt_text::{Bytes, Shared};
 use std::alloc::{AllocError, Global};
 
 /// A splice of a text: `inserted` bytes replaced those from `begin` up to `end`.
@@ -63,7 +63,7 @@ impl Items {
         let old = self.pieces();
         let kept = count_below(old, splice.begin);
         let from = last_boundary(old, kept);
-        let no_source = Excerpt::copied(alloc, b"")?;
+        let no_source = Shared::<Bytes>::copied(alloc, b"")?;
         let reader = Reader {
             alloc,
             text: new_text,

@@ -24,7 +24,7 @@ use crate::reader::Reader;
 use crate::reading::{Reach, Reading};
 use crate::store::Store;
 use bt_bib::{Content, Items, Piece, PieceCursor, PlacedPiece};
-use bt_text::{Bytes, Excerpt, Sequence, Shared};
+use bt_text::{Bytes, Sequence, Shared};
 use std::alloc::{AllocError, Global};
 
 impl Reader<'_, '_> {
@@ -198,8 +198,7 @@ fn read_text(
     ensures { OnOk result (state_of reading.new
         ≡ after_items asked.now database (state_of reading.old) (items_of (pieces_of text.now))) }
 {
-    let text = Excerpt::of(text.share()?);
-    let mut left = PieceCursor::of(alloc, &text)?;
+    let mut left = PieceCursor::of(alloc, text)?;
     let reader = DatabaseReader {
         alloc,
         asked: &*asked,

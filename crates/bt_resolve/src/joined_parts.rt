@@ -42,7 +42,7 @@ fn joined_copy(alloc: Global, text: &[u8]) -> Result<Excerpt, AllocError>
     ensures { IfOk result (λ joined. joined ≡ white_joined text.now) }
 {
     let joined = join_white(alloc, text)?;
-    Ok(Excerpt::of(Shared::new(alloc, joined)?))
+    Excerpt::of(Shared::new(alloc, joined)?)
 }
 
 /// A text with each run of white space replaced by one space. It is shared if each is one space already.

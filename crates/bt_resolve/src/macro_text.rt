@@ -34,7 +34,7 @@ impl MacroText {
     pub fn new(alloc: Global, text: &[u8]) -> Result<Self, AllocError>
         ensures { IfOk result (λ copy. copy ≡ text.now) }
     {
-        let value = Excerpt::of(Shared::new(alloc, join_white(alloc, text)?)?);
+        let value = Excerpt::of(Shared::new(alloc, join_white(alloc, text)?)?)?;
         let text = if is_white_joined(text) {
             value.share()?
         } else {

@@ -261,6 +261,10 @@ impl Recorder for KeptSteps {
         Ok(())
     }
 
+    fn runs_all(&self, job: Job<'_>) -> bool {
+        job.earlier.steps.len() == 0
+    }
+
     /// Adds the step's cost to the meter if it is run, and not if it is reused.
     fn take_step(
         &mut self,

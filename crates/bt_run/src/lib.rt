@@ -26,6 +26,7 @@ mod kept_walk;
 mod known_calls;
 mod mark;
 mod once;
+mod prefetch;
 mod put;
 mod read_command;
 mod readings;

@@ -37,6 +37,9 @@ pub trait Recorder {
         ensures seen { OnOk result (seen self.new ≡ seen self.old) }
         ensures ready { OnOk result (ready self.new job.entry (course_world course.new)) };
 
+    /// Whether every step has to run, because there are no earlier steps to reuse. Only speed depends on it.
+    fn runs_all(&self, job: Job<'_>) -> bool;
+
     /// Takes a step for the entry at a place, or for none. After out of memory a part of what it left may be in the
     /// course.
     fn take_step(

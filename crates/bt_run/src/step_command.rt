@@ -7,6 +7,7 @@ ghost use Rattle.bt_run.specs.inner.JobView.{next_step, steps_for};
 
 use crate::course::{CommandPlace, Course};
 use crate::job::Job;
+use crate::prefetch::Prefetch;
 use crate::recorder::Recorder;
 use bt_style::Target;
 use std::alloc::AllocError;
@@ -56,7 +57,14 @@ impl<'a> StepCommand<'a> {
         ensures ordered { OnOk result (IsOrdered course.new) }
         ensures ready { OnOk result (R.ready recorder.new self.entry.job (course_world course.new)) }
     {
-        'places: for place in places {
+        let count = if recorder.runs_all(self.job) {
+            places.len()
+        } else {
+            0
+        };
+        let mut prefetch = Prefetch::of(count);
+        'places: for (done, place) in places.iter().enumerate() {
+            prefetch.touch(course.entries.as_slice(), &places[done..]);
             self.take_next(target, *place, course, recorder)?;
         }
         Ok(())

@@ -11,7 +11,7 @@ use Rattle.bt_stack.specs.Desk.{Desk, short, with_answer}
 use Rattle.bt_stack.specs.Tops.{joined_two, joined_tops}
 use Rattle.bt_stack.specs.inner.Kept.{part, item_in, bytes_in, items, desk, Fits, AllFit, IsSound, Grows}
 use Rattle.bt_stack.proofs.GrowLemmas.{items_are, items_kept, desk_kept, desk_grown, bytes_grown, all_fit_more, appended}
-use Rattle.bt_stack.proofs.TopLemmas.{two_tops, items_answered, items_len, text_answered}
+use Rattle.bt_stack.proofs.TopLemmas.{two_tops, items_answered, items_len, text_answered, made_last}
 use Rattle.bt_stack.proofs.VariableLemmas.{short_is}
 
 -- two texts side by side are one
@@ -40,8 +40,7 @@ last_part pool start count ends =
 
 pub put_last_part : (pool pool' text : List ℕ) → pool' ≡ pool ++ text → part pool' (length pool) (length text) ≡ text
 put_last_part pool pool' text is_pool =
-    ap (λ p. part p (length pool) (length text)) is_pool
-    ∙ ap (take (length text)) (drop_at pool text (length pool) refl) ∙ take_all (length text) text (omega arith)
+    ap (λ p. part p (length pool) (length text)) is_pool ∙ made_last pool text
 
 pub last_joined : (pool middle pool' : List ℕ) (v u : Value) (start len : ℕ) → Grows pool middle → start ≤ length middle → drop start middle ≡ bytes_in pool v → Fits (length pool) u → pool' ≡ middle ++ bytes_in middle u → len ≡ length (bytes_in pool v) + length (bytes_in pool u) → item_in pool' (value.Made start len) ≡ Item.Txt (bytes_in pool v ++ bytes_in pool u)
 last_joined pool middle pool' v u start len grows within last fits is_pool is_len =

@@ -27,13 +27,13 @@ values_next (k ∷ os) (x ∷ l) (suc n) o h is_there =
     ap (λ m. value_over k x ∷ m) (values_next os l n o (omega (arith, h)) is_there)
     ∙ sym (put_next o n (value_over k x) (values_over (take n os) l))
 
-copy_same : (pool : List ℕ) (v : Value) (t : List ℕ) → value_over (as_text (item_in pool v)) t ≡ text_over pool v t
-copy_same pool (value.Number n) t = refl
-copy_same pool (value.Given u) t = refl
-copy_same pool (value.Made start count) t = refl
-copy_same pool (value.Name n) t = refl
-copy_same pool (value.Block ops) t = refl
-copy_same pool (value.Missing n) t = refl
+text_same : (pool : List ℕ) (v : Value) (t : List ℕ) → value_over (as_text (item_in pool v)) t ≡ text_over pool v t
+text_same pool (value.Number n) t = refl
+text_same pool (value.Given u) t = refl
+text_same pool (value.Made start count) t = refl
+text_same pool (value.Name n) t = refl
+text_same pool (value.Block ops) t = refl
+text_same pool (value.Missing n) t = refl
 
 -- the next value, put over the variables if it is a text
 pub texts_next : (pool : List ℕ) (vs : List Value) (ts : List (List ℕ)) (n : ℕ) (v : Value) → n < length vs → v ≡ get_or vs n v → texts_over pool (take (suc n) vs) ts ≡ put (as_text (item_in pool v)) n (texts_over pool (take n vs) ts)
@@ -41,7 +41,7 @@ texts_next pool [] ts n v h is_there = absurd (omega (arith, h))
 texts_next pool (u ∷ vs) [] zero v h is_there = sym (put_nothing (as_text (item_in pool v)) 0)
 texts_next pool (u ∷ vs) [] (suc n) v h is_there = sym (put_nothing (as_text (item_in pool v)) (suc n))
 texts_next pool (u ∷ vs) (t ∷ ts) zero v h is_there =
-    sym (put_first (as_text (item_in pool v)) t ts ∙ ap (λ b. b ∷ ts) (copy_same pool v t ∙ ap (λ w. text_over pool w t) is_there))
+    sym (put_first (as_text (item_in pool v)) t ts ∙ ap (λ b. b ∷ ts) (text_same pool v t ∙ ap (λ w. text_over pool w t) is_there))
 texts_next pool (u ∷ vs) (t ∷ ts) (suc n) v h is_there =
     ap (λ l. text_over pool u t ∷ l) (texts_next pool vs ts n v (omega (arith, h)) is_there)
     ∙ sym (put_next (as_text (item_in pool v)) n (text_over pool u t) (texts_over pool (take n vs) ts))

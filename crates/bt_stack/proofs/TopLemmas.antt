@@ -109,7 +109,7 @@ made_cut pool v start count from len a b is_span fits is_a is_b =
     ap Item.Txt (part_cut pool start count from len a b inside.0 is_a is_b) ∙ ap (λ x. cut from len (item_in pool x)) (sym is_span)
 
 -- bytes that end the pool are the text that names them
-made_last : (pool text : List ℕ) → part (pool ++ text) (length pool) (length text) ≡ text
+pub made_last : (pool text : List ℕ) → part (pool ++ text) (length pool) (length text) ≡ text
 made_last pool text = ap (take (length text)) (drop_at pool text (length pool) refl) ∙ take_all (length text) text (omega arith)
 
 -- a text that was made takes the place of so many of the topmost values

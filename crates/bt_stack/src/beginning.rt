@@ -21,9 +21,9 @@ fn own_begun<'a>(entry: Option<&'a Entry>, globals: &'a Shared<Variables>) -> &'
     }
 }
 
-/// What a step is given, but for its held line.
+/// What a state borrows: the step's entry, globals and preamble, and patterns that are known to be sound.
 #[derive(Clone, Copy)]
-pub struct Given<'a> {
+pub struct StateInput<'a> {
     pub entry: Option<&'a Entry>,
     pub globals: &'a Shared<Variables>,
     pub preamble: &'a [u8],
@@ -37,16 +37,16 @@ impl<'a> State<'a> {
 
     /// The state before a step for an entry or for none, with the variables of the style. It holds no line, and has no memory
     /// beside the buffers yet. A result that might be out of memory would be copied, with all of the state, at each step.
-    pub fn begin(alloc: Global, buffers: &mut StepBuffers, given: Given<'a>) -> State<'a>
+    pub fn begin(alloc: Global, buffers: &mut StepBuffers, input: StateInput<'a>) -> State<'a>
         ensures { world_of result
-            ≡ world_begun (option_copied given.entry.entry) given.entry.globals.now given.entry.preamble.now }
+            ≡ world_begun (option_copied input.entry.entry) input.entry.globals.now input.entry.preamble.now }
     {
-        let Given {
+        let StateInput {
             entry,
             globals,
             preamble,
             patterns,
-        } = given;
+        } = input;
         let own = own_begun(entry, globals);
         State {
             stack: Stack::new(alloc, buffers, globals, own),

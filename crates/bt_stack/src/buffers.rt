@@ -1,9 +1,9 @@
 //! Buffers that the steps of a run use one after another.
 //!
 //! Allocating its buffers took a third of a short step's time. So a step gives them back, and the next one uses them. They
-//! are emptied first, or by each user before it writes (`scratch`), so no step sees anything of another. Buffers never
-//! shrink: the largest step decides how much memory they keep until the run ends. The stack's values have a vector of
-//! their own in each step, because they may borrow from its input.
+//! are emptied first, or by each user before it writes (`scratch`), so no step sees anything of another. A very
+//! large buffer is freed. The stack's values have a vector of their own in each step, because they may borrow
+//! from its input.
 
 ghost use Rattle.std.specs.Prelude.{◌≡◌, []};
 
@@ -11,6 +11,10 @@ use crate::value::Value;
 use std::alloc::Global;
 use std::marker::Model;
 use std::mem;
+
+/// A larger buffer is freed after its step, so that one step doesn't hold its memory until the run ends. This is sixteen
+/// strings of the greatest length.
+const MOST_KEPT_BYTES: usize = 1_048_576;
 
 /// The memory of a buffer, without its elements. It leaves a buffer without memory.
 fn emptied<T: Drop>(alloc: Global, buffer: &mut Vec<T>) -> Vec<T>
@@ -69,9 +73,9 @@ pub struct StepBuffers {
     pool: Vec<u8>,
     scratch: Vec<u8>,
     /// For the variables of the style.
-    pub globals: VariableBuffers,
+    pub(crate) globals: VariableBuffers,
     /// For those of the entry.
-    pub own: VariableBuffers,
+    pub(crate) own: VariableBuffers,
 }
 
 impl Model for StepBuffers {
@@ -103,9 +107,13 @@ impl StepBuffers {
         mem::replace(&mut self.scratch, Vec::new(alloc))
     }
 
-    /// Takes the pool and the buffer beside it back.
+    /// Takes back the pool and `scratch`, and frees one that is larger than `MOST_KEPT_BYTES`.
     pub(crate) fn put_back(&mut self, pool: Vec<u8>, scratch: Vec<u8>) {
-        self.pool = pool;
-        self.scratch = scratch;
+        if pool.capacity() <= MOST_KEPT_BYTES {
+            self.pool = pool;
+        }
+        if scratch.capacity() <= MOST_KEPT_BYTES {
+            self.scratch = scratch;
+        }
     }
 }

@@ -28,7 +28,7 @@ mod variables_left;
 
 pub use arguments::{take_choice, take_loop, take_number};
 pub use assignment::assign_value;
-pub use beginning::Given;
+pub use beginning::StateInput;
 pub use bt_names::SoundPatterns;
 pub use buffers::{StepBuffers, VariableBuffers};
 pub use leaving::Left;

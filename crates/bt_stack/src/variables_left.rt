@@ -4,9 +4,9 @@
 //! step's input, and the caller can drop the input. If nothing else owns the given variables then, the values are put into
 //! them, otherwise into a copy.
 
-ghost use Rattle.std.specs.Prelude.{◌≡◌, [], length, slice_get, option_map, IfOk, IfSome, OnOk};
+ghost use Rattle.std.specs.Prelude.{◌≡◌, [], length, option_map, IfOk, IfSome, OnOk};
 ghost use Rattle.bt_actions.specs.Arguments.{as_text};
-ghost use Rattle.bt_stack.specs.inner.Kept.{item_in, texts_over, values_over, put, own_of, Fits, AllFit};
+ghost use Rattle.bt_stack.specs.inner.Kept.{item_in, texts_over, values_over, put, Fits, AllFit};
 ghost use Rattle.bt_stack.specs.inner.Left.{changed_in};
 
 use crate::buffers::{StepBuffers, VariableBuffers};

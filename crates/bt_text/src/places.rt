@@ -9,6 +9,9 @@ use crate::excerpt::Excerpt;
 use std::alloc::{AllocError, Global};
 use std::marker::Model;
 
+/// How many texts are touched at most. Few entries have more.
+const MOST_TOUCHED: usize = 32;
+
 /// A list of texts of which many may be missing, each that is there kept with its place. Contracts see the list, with
 /// those that are missing. These take no memory.
 #[derive(Debug, Drop)]
@@ -67,6 +70,34 @@ impl PlacedTexts {
         ensures { result ≡ list_all is_none self.now }
     {
         self.present.as_slice().is_empty()
+    }
+
+    /// The first texts with their places, as many as `touch_places` and `touch_texts` read at most.
+    fn near(&self) -> &[(usize, Excerpt)] {
+        let present = self.present.as_slice();
+        &present[..present.len().min(MOST_TOUCHED)]
+    }
+
+    /// Reads the places of the first texts, so that they are in the processor's cache, and returns what depends on all of
+    /// them.
+    pub fn touch_places(&self) -> usize {
+        let mut bits: usize = 0;
+        'texts: for text in self.near() {
+            bits |= text.0;
+        }
+        bits
+    }
+
+    /// Reads the first byte of each of the first texts, so that it is in the processor's cache, and returns what depends on
+    /// all of them.
+    pub fn touch_texts(&self) -> usize {
+        let mut bits: usize = 0;
+        'texts: for text in self.near() {
+            if let Some(byte) = text.1.as_slice().first() {
+                bits |= *byte as usize;
+            }
+        }
+        bits
     }
 
     /// Makes room for `more` further texts. If memory runs out, nothing has changed.

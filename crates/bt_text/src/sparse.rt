@@ -110,6 +110,18 @@ impl SparseTexts {
         }
     }
 
+    /// Reads the places of the first of its own texts, so that they are in the processor's cache, and returns what depends
+    /// on all of them.
+    pub fn touch_places(&self) -> usize {
+        self.own.touch_places()
+    }
+
+    /// Reads the first byte of each of these texts, so that it is in the processor's cache, and returns what depends on all
+    /// of them.
+    pub fn touch_texts(&self) -> usize {
+        self.own.touch_texts()
+    }
+
     /// Makes room for `more` further texts. If memory runs out, nothing has changed.
     pub fn reserve(&mut self, more: usize) -> Result<(), AllocError>
         ensures { self.new ≡ self.old }

@@ -1,8 +1,8 @@
 //! Values by their places. Copies share what they have in common, if there are many.
 //!
-//! A step of a style copies the variables when it first assigns one, and changes few of them. Usual styles have fewer
-//! than 64, and copying a short vector is faster than sharing. A style may declare thousands, so beyond 64 the values are
-//! in chunks that copies share.
+//! A step changes few variables. In a run that keeps its steps, a step that assigns one copies them all. Usual styles have
+//! fewer than 64, and copying a short vector is faster than sharing. A style may declare thousands, so beyond 64 the values
+//! are in chunks that copies share.
 
 ghost use Rattle.std.specs.Prelude.{◌≡◌, [], IsTrue, length, slice_get, slice_set, option_copied, IfOk, OnOk, OnErr};
 

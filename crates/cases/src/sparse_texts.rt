@@ -35,8 +35,8 @@ fn set_all(list: &mut SparseTexts, text: &Excerpt) -> Done {
 /// Changes a list: a text at one place, one at every place, or none at one place.
 fn change(step: Words<'_>, list: &mut SparseTexts) -> Done {
     match step.word(0) {
-        "set" => list.set(step.count(2), Some(Excerpt::of(step.shared(3)?))),
-        "set_all" => set_all(list, &Excerpt::of(step.shared(2)?)),
+        "set" => list.set(step.count(2), Some(Excerpt::of(step.shared(3)?)?)),
+        "set_all" => set_all(list, &Excerpt::of(step.shared(2)?)?),
         "clear" => list.set(step.count(2), None),
         _ => Ok(()),
     }

@@ -26,8 +26,8 @@ fn variables(alloc: Global) -> Result<Shared<Variables>, AllocError> {
 
 fn fields(alloc: Global, title: &str, note: &str) -> Result<Shared<SparseTexts>, AllocError> {
     let mut fields = SparseTexts::new(alloc, 3);
-    fields.set(1, Some(Excerpt::of(text(alloc, title)?)))?;
-    fields.set(2, Some(Excerpt::of(text(alloc, note)?)))?;
+    fields.set(1, Some(Excerpt::of(text(alloc, title)?)?))?;
+    fields.set(2, Some(Excerpt::of(text(alloc, note)?)?))?;
     Shared::new(alloc, fields)
 }
 

@@ -9,7 +9,7 @@ use Rattle.bt_run.proofs.step_command.StepCommand.run_for_each.Given as goal
 abbrev pub invariant-places : goal.invariant-places
 invariant-places g l = record {
   run :
-      iterated g.R.Recorder.note (program_of l.self.job.style.now) l.self.site.now l.target (drop l.place-index l.places) (recorded l.course (g.R.Recorder.seen l.recorder))
+      iterated g.R.Recorder.note (program_of l.self.job.style.now) l.self.site.now l.target (drop l.done l.places) (recorded l.course (g.R.Recorder.seen l.recorder))
       ≡ iterated g.R.Recorder.note (program_of l.self.job.style.now) l.self.site.now l.target l.places (recorded l.fn.course (g.R.Recorder.seen l.fn.recorder));
   ordered : IsOrdered l.course;
   entries : length l.course.entries ≡ length l.fn.course.entries;
